@@ -1,0 +1,113 @@
+//! Our leaves, from the static library of `crates/exports`, behind safe functions.
+
+#[repr(C)]
+#[derive(Clone, Copy)]
+struct Mark {
+    kind: u32,
+    len: usize,
+}
+
+#[repr(C)]
+#[derive(Clone, Copy)]
+struct State {
+    pos: usize,
+    escape: bool,
+    verbatim: bool,
+    next: Mark,
+}
+
+#[repr(C)]
+struct Step {
+    token: Mark,
+    state: State,
+}
+
+#[repr(C)]
+struct Scanned {
+    found: bool,
+    len: usize,
+}
+
+#[repr(C)]
+struct Counts {
+    first: usize,
+    second: usize,
+}
+
+extern "C" {
+    fn mivurakol_cursor(pos: usize, verbatim: bool) -> State;
+    fn mivurakol_peek(src: *const u8, len: usize, s: State) -> Step;
+    fn mivurakol_next(src: *const u8, len: usize, s: State) -> Step;
+    fn mivurakol_autolink(src: *const u8, len: usize, from: usize) -> Scanned;
+    fn mivurakol_symbol(src: *const u8, len: usize, from: usize) -> Scanned;
+    fn mivurakol_footnote(src: *const u8, len: usize, from: usize) -> Scanned;
+    fn mivurakol_raw_format(src: *const u8, len: usize, from: usize) -> Scanned;
+    fn mivurakol_hyphens(len: usize) -> Counts;
+    fn mivurakol_periods(len: usize) -> Counts;
+}
+
+pub struct Cursor(State);
+
+#[allow(dead_code)]
+impl Cursor {
+    pub fn new(pos: usize, verbatim: bool) -> Self {
+        Cursor(unsafe { mivurakol_cursor(pos, verbatim) })
+    }
+
+    pub fn place(&self) -> usize {
+        self.0.pos
+    }
+
+    pub fn set_verbatim(&mut self, verbatim: bool) {
+        self.0.verbatim = verbatim;
+    }
+
+    pub fn peek(&mut self, src: &[u8]) -> (u32, usize) {
+        let step = unsafe { mivurakol_peek(src.as_ptr(), src.len(), self.0) };
+        self.0 = step.state;
+        (step.token.kind, step.token.len)
+    }
+
+    pub fn next(&mut self, src: &[u8]) -> (u32, usize) {
+        let step = unsafe { mivurakol_next(src.as_ptr(), src.len(), self.0) };
+        self.0 = step.state;
+        (step.token.kind, step.token.len)
+    }
+}
+
+/// A scan ahead: of a line, from a place.
+#[allow(dead_code)]
+#[derive(Clone, Copy, Debug)]
+pub enum Scan {
+    Autolink,
+    Symbol,
+    Footnote,
+    RawFormat,
+}
+
+#[allow(dead_code)]
+pub fn scan(what: Scan, src: &[u8], from: usize) -> Option<usize> {
+    let scanned = unsafe {
+        match what {
+            Scan::Autolink => mivurakol_autolink(src.as_ptr(), src.len(), from),
+            Scan::Symbol => mivurakol_symbol(src.as_ptr(), src.len(), from),
+            Scan::Footnote => mivurakol_footnote(src.as_ptr(), src.len(), from),
+            Scan::RawFormat => mivurakol_raw_format(src.as_ptr(), src.len(), from),
+        }
+    };
+    scanned.found.then_some(scanned.len)
+}
+
+/// The em and en dashes of a run of hyphens.
+#[allow(dead_code)]
+pub fn hyphens(len: usize) -> (usize, usize) {
+    let counts = unsafe { mivurakol_hyphens(len) };
+    (counts.first, counts.second)
+}
+
+/// The ellipses of a run of periods, and the periods that are left.
+#[allow(dead_code)]
+pub fn periods(len: usize) -> (usize, usize) {
+    let counts = unsafe { mivurakol_periods(len) };
+    (counts.first, counts.second)
+}

@@ -1,0 +1,18 @@
+-- `classes::is_punctuation` meets its contract: the flag that `has` reads is the class's.
+use mathlib.Core.Path.{_∙_}
+use Rattle.classes.proofs.Rule.{class-flags}
+use borrow.Author.Needs.{needs}
+use Rattle.classes.proofs.is_punctuation.Statement.{statement}
+use Rattle.classes.proofs.is_punctuation.Tie as tie
+
+classes-requires : tie.Need-classes-requires
+classes-requires c κs = search needs
+
+has-requires : tie.Need-has-requires
+has-requires c κs = search needs
+
+returns : tie.Need-returns
+returns c = c .has .ensures ∙ class-flags _ .punctuation
+
+pub is-punctuation-spec : {M : Type 1} → statement M
+is-punctuation-spec = tie.close (tie.spec classes-requires has-requires returns)

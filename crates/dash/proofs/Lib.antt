@@ -1,0 +1,2 @@
+-- The laws of dashes, which the proofs of crates above cite too.
+pub mod Splits

@@ -1,0 +1,317 @@
+// The leaves under C names, with tokens and cursors as numbers: what the comparison with the Rust calls.
+ghost use mathlib.Core.Path.{_≡_};
+ghost use Prim.Native.Nat.{_<_};
+ghost use lib.ListN.{drop};
+ghost use Rattle.lex.specs.Lexer.{freshOf, peekOf, nextOf};
+ghost use Rattle.scan.specs.Scans.{autolinkOf, symbolOf, footnoteOf, rawFormatOf};
+ghost use Rattle.dash.specs.Dashes.{dashesOf, dotsOf};
+ghost use Rattle.exports.specs.Numbers.{delimiterNumber, symbolNumber, sequenceNumber, kindNumber, markOf, tokenOf, cursorOf, stateOf, stepOf};
+ghost use Rattle.exports.specs.Numbers.{scannedOf, dashCounts, dotCounts};
+use lex::Cursor;
+use lex::Delimiter;
+use lex::Kind;
+use lex::Lexed;
+use lex::Next;
+use lex::Sequence;
+use lex::Symbol;
+use lex::Token;
+use scan::Ahead;
+
+// The kinds by their numbers.
+const KINDS: [Kind; 42] = [
+    Kind::Text,
+    Kind::Newline,
+    Kind::Nbsp,
+    Kind::Hardbreak,
+    Kind::Escape,
+    Kind::Open(Delimiter::Brace),
+    Kind::Open(Delimiter::BraceAsterisk),
+    Kind::Open(Delimiter::BraceCaret),
+    Kind::Open(Delimiter::BraceEqual),
+    Kind::Open(Delimiter::BraceHyphen),
+    Kind::Open(Delimiter::BracePlus),
+    Kind::Open(Delimiter::BraceTilde),
+    Kind::Open(Delimiter::BraceUnderscore),
+    Kind::Open(Delimiter::Bracket),
+    Kind::Open(Delimiter::BraceQuote1),
+    Kind::Open(Delimiter::BraceQuote2),
+    Kind::Open(Delimiter::Paren),
+    Kind::Close(Delimiter::Brace),
+    Kind::Close(Delimiter::BraceAsterisk),
+    Kind::Close(Delimiter::BraceCaret),
+    Kind::Close(Delimiter::BraceEqual),
+    Kind::Close(Delimiter::BraceHyphen),
+    Kind::Close(Delimiter::BracePlus),
+    Kind::Close(Delimiter::BraceTilde),
+    Kind::Close(Delimiter::BraceUnderscore),
+    Kind::Close(Delimiter::Bracket),
+    Kind::Close(Delimiter::BraceQuote1),
+    Kind::Close(Delimiter::BraceQuote2),
+    Kind::Close(Delimiter::Paren),
+    Kind::Sym(Symbol::Asterisk),
+    Kind::Sym(Symbol::Caret),
+    Kind::Sym(Symbol::ExclaimBracket),
+    Kind::Sym(Symbol::Lt),
+    Kind::Sym(Symbol::Pipe),
+    Kind::Sym(Symbol::Quote1),
+    Kind::Sym(Symbol::Quote2),
+    Kind::Sym(Symbol::Tilde),
+    Kind::Sym(Symbol::Underscore),
+    Kind::Sym(Symbol::Colon),
+    Kind::Seq(Sequence::Backtick),
+    Kind::Seq(Sequence::Hyphen),
+    Kind::Seq(Sequence::Period),
+];
+
+// A token: the number of its kind, and its length. 42 is the kind of no token.
+#[repr(C)]
+pub struct Mark {
+    pub kind: u32,
+    pub len: usize,
+}
+
+// A cursor.
+#[repr(C)]
+pub struct State {
+    pub pos: usize,
+    pub escape: bool,
+    pub verbatim: bool,
+    pub next: Mark,
+}
+
+// A token and the cursor behind it.
+#[repr(C)]
+pub struct Step {
+    pub token: Mark,
+    pub state: State,
+}
+
+// What a scan found.
+#[repr(C)]
+pub struct Scanned {
+    pub found: bool,
+    pub len: usize,
+}
+
+// Two counts.
+#[repr(C)]
+pub struct Counts {
+    pub first: usize,
+    pub second: usize,
+}
+
+fn delimiter_number(d: Delimiter) -> u32
+    ensures { λ r. ⌜ r ≡ delimiterNumber d ⌝ }
+    ensures { λ r. ⌜ r < 12 ⌝ }
+{
+    match d {
+        Delimiter::Brace => 0,
+        Delimiter::BraceAsterisk => 1,
+        Delimiter::BraceCaret => 2,
+        Delimiter::BraceEqual => 3,
+        Delimiter::BraceHyphen => 4,
+        Delimiter::BracePlus => 5,
+        Delimiter::BraceTilde => 6,
+        Delimiter::BraceUnderscore => 7,
+        Delimiter::Bracket => 8,
+        Delimiter::BraceQuote1 => 9,
+        Delimiter::BraceQuote2 => 10,
+        Delimiter::Paren => 11,
+    }
+}
+
+fn symbol_number(s: Symbol) -> u32
+    ensures { λ r. ⌜ r ≡ symbolNumber s ⌝ }
+    ensures { λ r. ⌜ r < 10 ⌝ }
+{
+    match s {
+        Symbol::Asterisk => 0,
+        Symbol::Caret => 1,
+        Symbol::ExclaimBracket => 2,
+        Symbol::Lt => 3,
+        Symbol::Pipe => 4,
+        Symbol::Quote1 => 5,
+        Symbol::Quote2 => 6,
+        Symbol::Tilde => 7,
+        Symbol::Underscore => 8,
+        Symbol::Colon => 9,
+    }
+}
+
+fn sequence_number(s: Sequence) -> u32
+    ensures { λ r. ⌜ r ≡ sequenceNumber s ⌝ }
+    ensures { λ r. ⌜ r < 3 ⌝ }
+{
+    match s {
+        Sequence::Backtick => 0,
+        Sequence::Hyphen => 1,
+        Sequence::Period => 2,
+    }
+}
+
+fn kind_number(kind: Kind) -> u32
+    ensures { λ r. ⌜ r ≡ kindNumber kind ⌝ }
+{
+    match kind {
+        Kind::Text => 0,
+        Kind::Newline => 1,
+        Kind::Nbsp => 2,
+        Kind::Hardbreak => 3,
+        Kind::Escape => 4,
+        Kind::Open(d) => 5 + delimiter_number(d),
+        Kind::Close(d) => 17 + delimiter_number(d),
+        Kind::Sym(s) => 29 + symbol_number(s),
+        Kind::Seq(s) => 39 + sequence_number(s),
+    }
+}
+
+fn mark_of(next: Next) -> Mark
+    ensures { λ r. ⌜ r ≡ markOf next ⌝ }
+{
+    match next {
+        Next::Some(t) => {
+            let kind = t.kind;
+            Mark {
+                kind: kind_number(kind),
+                len: t.len,
+            }
+        }
+        Next::None => Mark { kind: 42, len: 0 },
+    }
+}
+
+fn token_of(m: Mark) -> Next
+    ensures { λ r. ⌜ r ≡ tokenOf m ⌝ }
+{
+    let n = m.kind;
+    if n < 42 {
+        let kind = KINDS[n as usize];
+        Next::Some(Token {
+            kind: kind,
+            len: m.len,
+        })
+    } else {
+        Next::None
+    }
+}
+
+fn cursor_of(s: State) -> Cursor
+    ensures { λ r. ⌜ r ≡ cursorOf s ⌝ }
+{
+    let m = s.next;
+    Cursor {
+        pos: s.pos,
+        escape: s.escape,
+        next: token_of(m),
+        verbatim: s.verbatim,
+    }
+}
+
+fn state_of(c: Cursor) -> State
+    ensures { λ r. ⌜ r ≡ stateOf c ⌝ }
+{
+    let next = c.next;
+    State {
+        pos: c.pos,
+        escape: c.escape,
+        verbatim: c.verbatim,
+        next: mark_of(next),
+    }
+}
+
+fn step_of(l: Lexed) -> Step
+    ensures { λ r. ⌜ r ≡ stepOf l ⌝ }
+{
+    let token = l.token;
+    let cursor = l.cursor;
+    Step {
+        token: mark_of(token),
+        state: state_of(cursor),
+    }
+}
+
+#[no_mangle]
+pub extern "C" fn mivurakol_cursor(pos: usize, verbatim: bool) -> State
+    ensures { λ r. ⌜ r ≡ stateOf (freshOf pos verbatim) ⌝ }
+{
+    state_of(Cursor::new(pos, verbatim))
+}
+
+#[no_mangle]
+pub extern "C" fn mivurakol_peek(src: &[u8], s: State) -> Step
+    ensures { λ r. ⌜ r ≡ stepOf (peekOf (now (src .entry)) (cursorOf s)) ⌝ }
+{
+    step_of(cursor_of(s).peek(src))
+}
+
+#[no_mangle]
+pub extern "C" fn mivurakol_next(src: &[u8], s: State) -> Step
+    ensures { λ r. ⌜ r ≡ stepOf (nextOf (now (src .entry)) (cursorOf s)) ⌝ }
+{
+    step_of(cursor_of(s).next(src))
+}
+
+fn scanned_of(a: Ahead) -> Scanned
+    ensures { λ r. ⌜ r ≡ scannedOf a ⌝ }
+{
+    match a {
+        Ahead::Some(len) => Scanned {
+            found: true,
+            len: len,
+        },
+        Ahead::None => Scanned {
+            found: false,
+            len: 0,
+        },
+    }
+}
+
+#[no_mangle]
+pub extern "C" fn mivurakol_autolink(src: &[u8], from: usize) -> Scanned
+    ensures { λ r. ⌜ r ≡ scannedOf (autolinkOf (drop from (now (src .entry)))) ⌝ }
+{
+    scanned_of(scan::ahead_autolink(src, from))
+}
+
+#[no_mangle]
+pub extern "C" fn mivurakol_symbol(src: &[u8], from: usize) -> Scanned
+    ensures { λ r. ⌜ r ≡ scannedOf (symbolOf (drop from (now (src .entry)))) ⌝ }
+{
+    scanned_of(scan::ahead_symbol(src, from))
+}
+
+#[no_mangle]
+pub extern "C" fn mivurakol_footnote(src: &[u8], from: usize) -> Scanned
+    ensures { λ r. ⌜ r ≡ scannedOf (footnoteOf (drop from (now (src .entry)))) ⌝ }
+{
+    scanned_of(scan::ahead_footnote(src, from))
+}
+
+#[no_mangle]
+pub extern "C" fn mivurakol_raw_format(src: &[u8], from: usize) -> Scanned
+    ensures { λ r. ⌜ r ≡ scannedOf (rawFormatOf (drop from (now (src .entry)))) ⌝ }
+{
+    scanned_of(scan::ahead_raw_format(src, from))
+}
+
+#[no_mangle]
+pub extern "C" fn mivurakol_hyphens(len: usize) -> Counts
+    ensures { λ r. ⌜ r ≡ dashCounts (dashesOf len) ⌝ }
+{
+    let d = dash::split_hyphens(len);
+    Counts {
+        first: d.em,
+        second: d.en,
+    }
+}
+
+#[no_mangle]
+pub extern "C" fn mivurakol_periods(len: usize) -> Counts
+    ensures { λ r. ⌜ r ≡ dotCounts (dotsOf len) ⌝ }
+{
+    let d = dash::split_periods(len);
+    Counts {
+        first: d.ellipses,
+        second: d.rest,
+    }
+}

@@ -1,0 +1,3 @@
+-- The laws of scans, which the proofs of crates above cite too.
+pub mod Closing
+pub mod Addresses
