@@ -1,5 +1,5 @@
 -- The rule of a table, from one test that is computed over all of its entries; and the flags of a class.
-use Prim.Native.Nat.{ℕ, zero, suc, _+_, _/_, _%_, _<_}
+use Prim.Native.Nat.{ℕ, zero, suc, _+_, _/_, _%_, _≤_, _<_}
 use mathlib.Core.Path.{_≡_, refl}
 use mathlib.Core.List.{List, [], _∷_}
 use mathlib.Core.Bool.{Bool, true, false, _&&_, and-eq-true-iff}
@@ -8,7 +8,7 @@ use native.Mathlib.Omega.{arith}
 use borrow.Author.Tests.{eqb-true}
 use lib.Dec.{eqb}
 use lib.ListN.{length, getD}
-use Rattle.classes.specs.Classes.{special, blank, punctuation, alphanumeric, flag, flagged, classOf, Ruled}
+use Rattle.classes.specs.Classes.{special, blank, punctuation, alphanumeric, bit, flagged, classOf, Ruled}
 
 -- each entry is the rule's value at its place, counted from i
 unfoldable pub ruledFrom : (ℕ → ℕ) → ℕ → List ℕ → Bool
@@ -26,31 +26,31 @@ ruled-from rule (x ∷ xs) i t (suc k) h =
 pub ruled : (table : List ℕ) → length table ≡ 256 → ruledFrom classOf 0 table ≡ true → Ruled table
 ruled table n t = record { size = n; rule = λ b h. rw zero-add at (ruled-from classOf table 0 t b h) }
 
+bit-small : (b : Bool) → bit b ≤ 1
+bit-small true = omega arith
+bit-small false = omega arith
+
+bit-read : (n : ℕ) (b : Bool) → n ≡ bit b → eqb n 1 ≡ b
+bit-read n true e = rw e
+bit-read n false e = rw e
+
 -- each flag is read back from the number
-pub record Flags (n : ℕ) (s b p a : Bool) : Type 0 where
-  pub special : eqb (n / 1 % 2) 1 ≡ s
-  pub blank : eqb (n / 2 % 2) 1 ≡ b
-  pub punctuation : eqb (n / 4 % 2) 1 ≡ p
-  pub alphanumeric : eqb (n / 8 % 2) 1 ≡ a
+pub record Flags (b : ℕ) : Type 0 where
+  pub special : flagged 1 b ≡ special b
+  pub blank : flagged 2 b ≡ blank b
+  pub punctuation : flagged 4 b ≡ punctuation b
+  pub alphanumeric : flagged 8 b ≡ alphanumeric b
 
-flags-of : (s b p a : Bool) → Flags (flag 1 s + flag 2 b + flag 4 p + flag 8 a) s b p a
-flags-of false false false false = record { special = refl; blank = refl; punctuation = refl; alphanumeric = refl }
-flags-of false false false true = record { special = refl; blank = refl; punctuation = refl; alphanumeric = refl }
-flags-of false false true false = record { special = refl; blank = refl; punctuation = refl; alphanumeric = refl }
-flags-of false false true true = record { special = refl; blank = refl; punctuation = refl; alphanumeric = refl }
-flags-of false true false false = record { special = refl; blank = refl; punctuation = refl; alphanumeric = refl }
-flags-of false true false true = record { special = refl; blank = refl; punctuation = refl; alphanumeric = refl }
-flags-of false true true false = record { special = refl; blank = refl; punctuation = refl; alphanumeric = refl }
-flags-of false true true true = record { special = refl; blank = refl; punctuation = refl; alphanumeric = refl }
-flags-of true false false false = record { special = refl; blank = refl; punctuation = refl; alphanumeric = refl }
-flags-of true false false true = record { special = refl; blank = refl; punctuation = refl; alphanumeric = refl }
-flags-of true false true false = record { special = refl; blank = refl; punctuation = refl; alphanumeric = refl }
-flags-of true false true true = record { special = refl; blank = refl; punctuation = refl; alphanumeric = refl }
-flags-of true true false false = record { special = refl; blank = refl; punctuation = refl; alphanumeric = refl }
-flags-of true true false true = record { special = refl; blank = refl; punctuation = refl; alphanumeric = refl }
-flags-of true true true false = record { special = refl; blank = refl; punctuation = refl; alphanumeric = refl }
-flags-of true true true true = record { special = refl; blank = refl; punctuation = refl; alphanumeric = refl }
-
-pub class-flags : (b : ℕ) → Flags (classOf b) (special b) (blank b) (punctuation b) (alphanumeric b)
+pub class-flags : (b : ℕ) → Flags b
 unfolding classOf
-class-flags b = flags-of (special b) (blank b) (punctuation b) (alphanumeric b)
+class-flags b =
+    let s = bit-small (special b) in
+    let k = bit-small (blank b) in
+    let p = bit-small (punctuation b) in
+    let a = bit-small (alphanumeric b) in
+    record {
+      special = bit-read (classOf b / 1 % 2) (special b) (omega arith);
+      blank = bit-read (classOf b / 2 % 2) (blank b) (omega arith);
+      punctuation = bit-read (classOf b / 4 % 2) (punctuation b) (omega arith);
+      alphanumeric = bit-read (classOf b / 8 % 2) (alphanumeric b) (omega arith);
+    }

@@ -1,5 +1,5 @@
 -- Byte classes (document 01, "Byte classes"): what the bytes of a line are, by themselves.
-use Prim.Native.Nat.{ℕ, _+_, _/_, _%_, _<_}
+use Prim.Native.Nat.{ℕ, _+_, _*_, _/_, _%_, _<_}
 use Prim.Native.Char.{code}
 use Prim.Native.String.{String, [] as []ˢ, _∷_ as _∷ˢ_}
 use mathlib.Core.Path.{_≡_}
@@ -36,20 +36,20 @@ blank b = among (bytes " \t\n\u{c}\r") b
 unfoldable pub alphanumeric : ℕ → Bool
 alphanumeric b = between (code "0") (code "9") b || between (code "A") (code "Z") b || between (code "a") (code "z") b
 
--- the other characters of ASCII that are seen
+-- `is_ascii_punctuation`: the other characters of ASCII that are seen
 unfoldable pub punctuation : ℕ → Bool
 unfolding alphanumeric
 punctuation b = between (code "!") (code "~") b && not (alphanumeric b)
 
--- a flag that is set or not
-abbrev pub flag : ℕ → Bool → ℕ
-flag v true = v
-flag v false = 0
+-- 1 for yes, 0 for no
+abbrev pub bit : Bool → ℕ
+bit true = 1
+bit false = 0
 
 -- the flags of a byte as one number: 1 special, 2 blank, 4 punctuation, 8 alphanumeric
 unfoldable pub classOf : ℕ → ℕ
 unfolding special blank punctuation alphanumeric
-classOf b = flag 1 (special b) + flag 2 (blank b) + flag 4 (punctuation b) + flag 8 (alphanumeric b)
+classOf b = bit (special b) + 2 * bit (blank b) + 4 * bit (punctuation b) + 8 * bit (alphanumeric b)
 
 -- one flag of a byte
 abbrev pub flagged : ℕ → ℕ → Bool

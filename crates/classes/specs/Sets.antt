@@ -1,7 +1,7 @@
 -- Runs of bytes of one set: what the lexer's text and the scans ahead go over (document 01, "Lexer" and "Scans ahead").
 use Prim.Native.Nat.{ℕ, suc}
 use mathlib.Core.List.{List, [], _∷_}
-use mathlib.Core.Bool.{Bool, true, false, not, _&&_, _||_}
+use mathlib.Core.Bool.{Bool, true, false, not, _||_}
 use Rattle.classes.specs.declared.Set.{Set}
 use Rattle.classes.specs.declared.Set.the-variants.{Plain, SpaceTab, Address, Unmarked, Name, Label, Format}
 use Rattle.classes.specs.Classes.{bytes, among, special, blank, alphanumeric}

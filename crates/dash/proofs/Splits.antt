@@ -1,12 +1,11 @@
 -- The fewest en dashes, the split of a run in each case, and that a split is of the whole run.
-use Prim.Native.Nat.{ℕ, zero, suc, _+_, _*_, _-_, _/_, _%_, _≤_, _<_}
-use mathlib.Core.Path.{_≡_, refl, sym, ap, _∙_}
-use mathlib.Core.Bool.{Bool, true, false, _&&_, and-eq-true-iff}
+use Prim.Native.Nat.{ℕ, suc, _+_, _*_, _-_, _/_, _%_, _≤_, _<_}
+use mathlib.Core.Path.{_≡_, ap, _∙_}
+use mathlib.Core.Bool.{true, false, and-eq-true-iff}
 use native.Mathlib.Decide.{ℕ-discrete}
 use native.Mathlib.Omega.{arith}
 use borrow.Author.Tests.{le-leb, lt-ltb, le-ltb, eq-eqb, ne-eqb}
-use lib.Dec.{leb, ltb, eqb}
-use Rattle.dash.specs.declared.Dashes.{Dashes}
+use lib.Dec.{leb, eqb}
 use Rattle.dash.specs.Dashes.{comesOut, firstFrom, fewest, dashes, dashesOf, dotsOf}
 
 module _ (n : ℕ) where

@@ -1,4 +1,4 @@
--- Dashes and dots (document 01, "Dashes and dots").
+-- Dashes and dots (document 01, "Dashes and dots"; Djot's rule on smart punctuation).
 use Prim.Native.Nat.{ℕ, zero, suc, _*_, _-_, _/_, _%_}
 use mathlib.Core.Bool.{Bool, true, false, _&&_}
 use lib.Dec.{leb, ltb, eqb}
@@ -21,8 +21,8 @@ fewest n = firstFrom n 1 n
 abbrev pub dashes : ℕ → ℕ → Dashes
 dashes em en = record { em = em; en = en }
 
--- a run of two and more: all em if 3 divides it; else all en if 2 divides it; else em first and then the fewest en that make it come
--- out. The Djot syntax reference asks for one kind of dash where one will do, and for em dashes first
+-- a run of two and more: all em if 3 divides it; else all en if 2 divides it; else em first and then the fewest en that make it come out.
+-- (Djot: one kind of dash where one will do, and em before en.) Fewer than two hyphens are no dash
 unfoldable pub dashesOf : ℕ → Dashes
 dashesOf n =
     elim (ltb n 2) [

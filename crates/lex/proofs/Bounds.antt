@@ -1,5 +1,5 @@
 -- A token is at least one byte and never passes the end.
-use Prim.Native.Nat.{ℕ, zero, suc, _+_, _-_, _≤_, _<_}
+use Prim.Native.Nat.{ℕ, suc, _≤_, _<_}
 use Prim.Native.Char.{code}
 use mathlib.Core.Path.{_≡_, refl, sym, ap, _∙_}
 use mathlib.Core.List.{List, [], _∷_}
@@ -9,7 +9,7 @@ use native.Mathlib.Omega.{arith}
 use borrow.Author.Tests.{eqb-true, leb-true, ltb-true, ltb-false, eq-eqb}
 use lib.Dec.{eqb, leb, ltb}
 use lib.ListN.{length, getD, List·getD-eq-default}
-use Rattle.classes.specs.Classes.{special, blank, punctuation}
+use Rattle.classes.specs.Classes.{blank, punctuation}
 use Rattle.classes.specs.declared.Set.the-variants.{Plain, SpaceTab}
 use Rattle.classes.specs.Sets.{inSet, run}
 use Rattle.classes.proofs.Runs.{run-more, run-within}

@@ -1,8 +1,8 @@
 -- Joined Text: what the Text token at the front adds to it.
-use Prim.Native.Nat.{ℕ, zero, suc, _+_, _≤_, _<_}
+use Prim.Native.Nat.{ℕ, suc, _+_, _≤_}
 use mathlib.Core.Path.{_≡_, refl, sym, ap, _∙_}
 use mathlib.Core.List.{List, [], _∷_}
-use mathlib.Core.Bool.{Bool, true, false, not, _&&_, _||_}
+use mathlib.Core.Bool.{Bool, true, false, not, _||_}
 use native.Mathlib.Nat.{zero-add, suc-add}
 use native.Mathlib.Numerals.{one-add}
 use native.Mathlib.Omega.{arith}
@@ -15,14 +15,13 @@ use Rattle.classes.specs.declared.Set.the-variants.{Plain}
 use Rattle.classes.specs.Sets.{inSet, run}
 use Rattle.classes.proofs.Runs.{run-stop, run-more}
 use Rattle.lex.specs.declared.lex.Token.{Token}
-use Rattle.lex.specs.declared.lex.Kind.{Kind}
 use Rattle.lex.specs.declared.lex.Kind.the-variants.{Text, Open}
 use Rattle.lex.specs.declared.lex.Delimiter.the-variants.{Brace}
 use Rattle.lex.specs.declared.lex.Next.{Next}
 use Rattle.lex.specs.declared.lex.Next.the-variants.{Some, None}
 use Rattle.lex.specs.declared.lex.Start.{Start}
 use Rattle.lex.specs.declared.lex.Start.the-variants as start
-use Rattle.lex.specs.Lexer.{token, lookup, startOf, braces, hyphensOf, begunBy, begunOf, lexed, isText, texts, joinedOf}
+use Rattle.lex.specs.Lexer.{token, startOf, braces, hyphensOf, begunBy, begunOf, lexed, isText, texts, joinedOf}
 use Rattle.lex.proofs.Tables.{rows, lookup-all, marks, marks-special}
 
 -- one byte at the front

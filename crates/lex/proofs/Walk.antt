@@ -1,7 +1,7 @@
 -- The steps of a cursor: from what is lexed at its place to the next token and cursor.
-use Prim.Native.Nat.{ℕ, zero, suc, _+_, _-_, _≤_, _<_}
-use mathlib.Core.Path.{_≡_, refl, sym, ap, _∙_}
-use mathlib.Core.List.{List, [], _∷_}
+use Prim.Native.Nat.{ℕ, _+_, _-_, _≤_, _<_}
+use mathlib.Core.Path.{_≡_, sym, ap, _∙_}
+use mathlib.Core.List.{List}
 use mathlib.Core.Bool.{Bool, true, false}
 use native.Mathlib.Omega.{arith}
 use borrow.Author.Tests.{le-leb, lt-leb}
@@ -15,7 +15,7 @@ use Rattle.lex.specs.declared.lex.Cursor.{Cursor}
 use Rattle.lex.specs.declared.lex.Lexed.{Lexed}
 use Rattle.lex.specs.declared.lex.Joined.{Joined}
 use Rattle.lex.specs.Lexer.{token, lexed, isText, pendingOf, texts, joinedOf, holdingOf, foundBy, takenOf, nextBy, nextOf, peekBy, peekOf}
-use Rattle.lex.proofs.Bounds.{Sized, lexed-sized}
+use Rattle.lex.proofs.Bounds.{lexed-sized}
 
 -- a cursor behind a token, with nothing held
 abbrev pub after : Cursor → ℕ → Bool → Cursor

@@ -1,4 +1,4 @@
--- The lexer (document 01, "Lexer"): the tokens of a line's bytes.
+-- The lexer (document 01, "Lexer"): the tokens of a line's bytes, which the rules on inlines of the Djot syntax reference are told by.
 use Prim.Native.Nat.{ℕ, suc, _+_, _-_}
 use Prim.Native.Char.{code}
 use mathlib.Core.List.{List, [], _∷_}
@@ -11,7 +11,6 @@ use Rattle.classes.specs.Sets.{inSet, run}
 use Rattle.lex.specs.declared.lex.Token.{Token}
 use Rattle.lex.specs.declared.lex.Kind.{Kind}
 use Rattle.lex.specs.declared.lex.Kind.the-variants.{Text, Newline, Nbsp, Hardbreak, Escape, Open, Close, Sym, Seq}
-use Rattle.lex.specs.declared.lex.Delimiter.{Delimiter}
 use Rattle.lex.specs.declared.lex.Delimiter.the-variants.{Brace, BraceAsterisk, BraceCaret, BraceEqual, BraceHyphen, BracePlus}
 use Rattle.lex.specs.declared.lex.Delimiter.the-variants.{BraceTilde, BraceUnderscore, Bracket, BraceQuote1, BraceQuote2, Paren}
 use Rattle.lex.specs.declared.lex.Symbol.the-variants.{Asterisk, Caret, ExclaimBracket, Lt, Pipe, Quote1, Quote2, Tilde, Underscore, Colon}
@@ -33,7 +32,8 @@ unfoldable pub lookup : {A : Type 0} → A → List (ℕ × A) → ℕ → A
 lookup d [] b = d
 lookup d (r ∷ rs) b = elim (eqb b (r .0)) [ true ↦ r .1 | false ↦ lookup d rs b ]
 
--- what each special byte begins
+-- what each special byte begins. `Closing` is a mark that a brace behind it makes a closer (Djot: a mark in braces, as `{_` and `_}`, can only
+-- open or close)
 unfoldable pub starts : List (ℕ × Start)
 starts =
     (code "\\", start.Backslash)
@@ -71,7 +71,7 @@ chOf Backtick = code "`"
 chOf Hyphen = code "-"
 chOf Period = code "."
 
--- what an opening brace opens, by the byte behind it
+-- what an opening brace makes of the mark behind it
 unfoldable pub braces : List (ℕ × Token)
 braces =
     (code "*", token (Open BraceAsterisk) 2)
@@ -100,7 +100,7 @@ begunBy start.Text s = let n = run (inSet Plain) s in token Text n
 begunBy (start.Sole k) s = token k 1
 begunBy (start.Closing k d) s = elim (eqb (getD s 1 0) (code "}")) [ true ↦ token (Close d) 2 | false ↦ token k 1 ]
 begunBy start.Brace s = lookup (token (Open Brace) 1) braces (getD s 1 0)
--- a backslash is text before what is neither blank nor punctuation, and at the line's end
+-- Djot's escapes: a backslash before punctuation or a blank; before anything else, and at the line's end, it is text
 begunBy start.Backslash s = elim (blank (getD s 1 0) || punctuation (getD s 1 0)) [ true ↦ token Escape 1 | false ↦ token Text 1 ]
 begunBy start.Hyphen s = let n = run (eqb (code "-")) s in hyphensOf n (getD s n 0)
 begunBy start.Exclaim s = elim (eqb (getD s 1 0) (code "[")) [ true ↦ token (Sym ExclaimBracket) 2 | false ↦ token Text 1 ]
@@ -110,8 +110,8 @@ begunBy (start.Run q) s = let n = run (eqb (chOf q)) s in token (Seq q) n
 abbrev pub begunOf : List ℕ → Token
 begunOf s = begunBy (startOf (getD s 0 0)) s
 
--- the token of bytes of which a backslash escapes the first: a newline, or blanks and then a newline, is a hard break;
--- another space is a no-break space; anything else is text, a tab too
+-- the token of bytes of which a backslash escapes the first. Djot: before a line's end, with blanks between or not, it is a hard break;
+-- before another space a no-break space; anything else stands for itself, a tab too
 unfoldable pub escapedOf : List ℕ → Token
 escapedOf s =
     elim (eqb (getD s 0 0) (code "\n")) [

@@ -1,10 +1,9 @@
 -- An address up to its first mark, and from there on.
-use Prim.Native.Nat.{ℕ, zero, suc, _+_, _-_, _≤_, _<_}
+use Prim.Native.Nat.{ℕ, suc, _+_, _-_, _≤_}
 use mathlib.Core.Path.{_≡_, refl, sym, ap, _∙_}
 use mathlib.Core.List.{List, [], _∷_}
 use mathlib.Core.Bool.{Bool, true, false, not, _&&_, _||_, and-eq-true-iff, and-true, or-false, false≢true}
 use native.Mathlib.Nat.{zero-add, suc-add}
-use native.Mathlib.Omega.{arith}
 use borrow.Author.Tests.{eqb-true, not-true}
 use lib.Dec.{eqb}
 use lib.ListN.{length, getD, take, drop, List·getD-eq-default}
@@ -13,7 +12,7 @@ use Rattle.classes.specs.declared.Set.the-variants.{Address, Unmarked}
 use Rattle.classes.specs.Sets.{inSet, run}
 use Rattle.classes.proofs.Runs.{run-stop, run-more}
 use Rattle.classes.proofs.Parts.{part-from}
-use Rattle.scan.specs.declared.Ahead.the-variants.{Some, None}
+use Rattle.scan.specs.declared.Ahead.the-variants.{None}
 use Rattle.scan.specs.Scans.{closedAt, uptoOf, mark, marked, autolinkOf}
 
 -- an unmarked byte of an address

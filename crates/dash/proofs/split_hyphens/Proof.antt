@@ -3,9 +3,6 @@ use Rattle.dash.proofs.Splits.{split-none, split-em, split-en, split-on
 use borrow.Author.Needs.{needs}
 use Rattle.dash.proofs.split_hyphens.Statement.{statement}
 use Rattle.dash.proofs.split_hyphens.Tie as tie
-use Rattle.dash.proofs.split_hyphens.Reads as reads
-use Rattle.dash.proofs.split_hyphens.Lts as lts
-use Rattle.dash.proofs.split.Reads as split-reads
 
 -- src/lib.rt:22:9
 split-requires : tie.Need-split-requires

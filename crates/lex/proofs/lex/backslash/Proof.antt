@@ -1,6 +1,4 @@
 -- `lex::lex::backslash` meets its contract: the test of the second byte is the definition's.
-use mathlib.Core.Path.{sym, _∙_}
-use borrow.Author.Tests.{eq-eqb, ne-eqb}
 use Rattle.lex.specs.Lexer.{begunBy}
 use borrow.Author.Needs.{needs}
 use Rattle.lex.proofs.lex.backslash.Statement.{statement}

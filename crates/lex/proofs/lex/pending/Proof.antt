@@ -6,7 +6,7 @@ use types.Run.{OneOf, miss}
 use denote.Enum.Declared.{tagOf}
 use mathlib.Core.Path.{_≡_, refl}
 use mathlib.Core.List.{[], _∷_}
-use mathlib.Core.Bool.{true, false}
+use mathlib.Core.Bool.{false}
 use Rattle.lex.specs.Lexer.{isEscape}
 use borrow.Author.Needs.{needs}
 use Rattle.lex.proofs.lex.pending.Statement.{statement}

@@ -2,7 +2,6 @@
 use mathlib.Core.Path.{_∙_}
 use Rattle.lex.proofs.Tables.{lookup-miss, lookup-none}
 use mathlib.Core.Path.{sym, ap}
-use borrow.Author.Tests.{ne-eqb}
 use Rattle.lex.specs.Lexer.{lookup, starts, startOf}
 use Rattle.lex.proofs.lex.start_of.Statement.{statement}
 use Rattle.lex.proofs.lex.start_of.Tie as tie
