@@ -1,6 +1,7 @@
 //! Compares our leaves with the Rust (`lex.rs`, `attr.rs` and `inline.rs` of the documents, as they stand).
 //!
-//! `run [N]`: compares, with N random lines (10 million if it is left out). Status 1 at the first difference.
+//! `run [N [SEED]]`: compares, with N random lines (10 million if it is left out), other ones for another seed. Status 1 at the first
+//! difference.
 //! `run sample`: prints the sample of the Rust's answers that `crates/replay` replays.
 
 #[allow(dead_code, unused_imports)]
@@ -31,7 +32,8 @@ fn main() {
         return;
     }
     let lines = word.map_or(10_000_000, |n| n.parse().expect("a number of random lines"));
-    let differences = tokens::compare(lines) || scans::compare();
+    let seed = std::env::args().nth(2).map_or(0x5eed, |n| n.parse().expect("a seed"));
+    let differences = tokens::compare(lines, seed) || scans::compare(seed);
     if differences {
         std::process::exit(1);
     }

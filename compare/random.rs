@@ -1,9 +1,13 @@
 //! Lines to compare on.
 
-/// Xorshift: the same lines in every run.
-pub struct Random(pub u64);
+/// Xorshift: the same lines for the same seed.
+pub struct Random(u64);
 
 impl Random {
+    pub fn new(seed: u64) -> Self {
+        Random((seed ^ 0x9e37_79b9_7f4a_7c15).max(1))
+    }
+
     pub fn next(&mut self) -> u64 {
         self.0 ^= self.0 << 13;
         self.0 ^= self.0 >> 7;

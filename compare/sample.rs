@@ -77,7 +77,7 @@ pub fn print() {
             tokens(src, Way { peeks, verbatim });
         }
     }
-    let mut r = Random(0x5eed_0001);
+    let mut r = Random::new(1);
     let mut src = Vec::new();
     for _ in 0..1000 {
         line(&mut r, &mut src);

@@ -29,7 +29,7 @@ fn same(what: Scan, src: &str, text: &mut String) -> bool {
 }
 
 /// Whether there is a difference.
-pub fn compare() -> bool {
+pub fn compare(seed: u64) -> bool {
     let started = Instant::now();
     let mut text = String::new();
     let mut all = 0;
@@ -43,7 +43,7 @@ pub fn compare() -> bool {
             return true;
         }
     }
-    let mut r = Random(0x5eed_0003);
+    let mut r = Random::new(seed);
     let lines = 1_000_000;
     let mut src = String::new();
     for _ in 0..lines {

@@ -54,7 +54,7 @@ fn same(src: &[u8], way: Way) -> bool {
 }
 
 /// Whether there is a difference.
-pub fn compare(lines: u64) -> bool {
+pub fn compare(lines: u64, seed: u64) -> bool {
     let started = Instant::now();
     let mut all = 0;
     for alphabet in ALPHABETS {
@@ -69,7 +69,7 @@ pub fn compare(lines: u64) -> bool {
     }
     println!("tokens: all {all} lines of up to 6 bytes over {} alphabets, {} ways each ({:.0?})", ALPHABETS.len(), WAYS.len(), started.elapsed());
     let started = Instant::now();
-    let mut r = Random(0x5eed_0002);
+    let mut r = Random::new(seed);
     let mut src = Vec::new();
     for _ in 0..lines {
         line(&mut r, &mut src);
@@ -78,6 +78,6 @@ pub fn compare(lines: u64) -> bool {
             return true;
         }
     }
-    println!("tokens: {lines} random lines, 3 ways each ({:.0?})", started.elapsed());
+    println!("tokens: {lines} random lines of seed {seed}, 3 ways each ({:.0?})", started.elapsed());
     false
 }

@@ -1,6 +1,6 @@
 -- The rule of a table, from one test that is computed over all of its entries; and the flags of a class.
 use Prim.Native.Nat.{ℕ, zero, suc, _+_, _/_, _%_, _≤_, _<_}
-use mathlib.Core.Path.{_≡_, refl}
+use mathlib.Core.Path.{_≡_}
 use mathlib.Core.List.{List, [], _∷_}
 use mathlib.Core.Bool.{Bool, true, false, _&&_, and-eq-true-iff}
 use native.Mathlib.Nat.{add-zero, zero-add, add-suc, suc-add}

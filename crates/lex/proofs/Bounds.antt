@@ -13,6 +13,7 @@ use Rattle.classes.specs.Classes.{blank, punctuation}
 use Rattle.classes.specs.declared.Set.the-variants.{Plain, SpaceTab}
 use Rattle.classes.specs.Sets.{inSet, run}
 use Rattle.classes.proofs.Runs.{run-more, run-within}
+use Rattle.classes.proofs.Parts.{stands}
 use Rattle.lex.specs.declared.lex.Token.{Token}
 use Rattle.lex.specs.declared.lex.Kind.{Kind}
 use Rattle.lex.specs.declared.lex.Kind.the-variants.{Text, Open, Close, Sym}
@@ -29,14 +30,6 @@ pub record Sized (n : ℕ) (s : List ℕ) : Type 0 where
   pub some : 1 ≤ n
   pub within : n ≤ length s
 
--- a byte that is not 0 stands within
-here : (s : List ℕ) (n k : ℕ) → getD s n 0 ≡ suc k → n < length s
-here s n k e = go (decLt n (length s))
-  where
-    go : Dec (n < length s) → n < length s
-    go (yes h) = h
-    go (no h) = absurd (omega (arith, sym e ∙ List·getD-eq-default s 0 (omega arith)))
-
 -- a run whose first byte is in it
 run-some : (p : ℕ → Bool) (s : List ℕ) → 0 < length s → p (getD s 0 0) ≡ true → Sized (run p s) s
 run-some p [] h e = absurd (omega arith)
@@ -48,7 +41,7 @@ module _ (s : List ℕ) (h : 0 < length s) where
 
   -- a second byte that is not 0
   two : (k : ℕ) → getD s 1 0 ≡ suc k → Sized 2 s
-  two k e = record { some = omega arith; within = omega (arith, here s 1 k e) }
+  two k e = record { some = omega arith; within = omega (arith, stands s 1 (suc k) e (omega arith)) }
 
   -- a token of two bytes if the second is a certain one, else of one
   pair : (k : ℕ) (a b : Kind) → Sized ((elim (eqb (getD s 1 0) (suc k)) as (λ _. Token) [ true ↦ token a 2 | false ↦ token b 1 ]) .len) s
@@ -123,7 +116,7 @@ module _ (s : List ℕ) (h : 0 < length s) where
       first true p y q z r = rw (p, escapedOf) one
       first false p true q z r =
           rw (p, q, escapedOf)
-          record { some = omega arith; within = omega (arith, here s n 9 (eqb-true _ _ (and-eq-true-iff (ltb 0 n) (eqb (getD s n 0) 10) .0 q .1))) }
+          record { some = omega arith; within = omega (arith, stands s n 10 (eqb-true _ _ (and-eq-true-iff (ltb 0 n) (eqb (getD s n 0) 10) .0 q .1)) (omega arith)) }
       first false p false q true r = rw (p, q, r, escapedOf) one
       first false p false q false r = rw (p, q, r, escapedOf) one
 

@@ -3,13 +3,13 @@ use Prim.Native.Nat.{ℕ, _≤_, _<_}
 use mathlib.Core.Path.{_≡_, refl, sym, _∙_}
 use mathlib.Core.List.{List}
 use mathlib.Core.Bool.{Bool, true, false}
-use native.Mathlib.Decide.{decLt}
 use native.Mathlib.Omega.{arith}
 use borrow.Author.Tests.{eq-eqb, ne-eqb, eqb-true, eqb-false}
 use lib.Dec.{eqb}
 use lib.ListN.{length, getD, List·getD-eq-default}
 use Rattle.classes.specs.declared.Set.the-variants.{Format}
 use Rattle.classes.specs.Sets.{inSet, run}
+use Rattle.classes.proofs.Parts.{stands}
 use Rattle.scan.specs.declared.Ahead.the-variants.{Some, None}
 use Rattle.scan.specs.Scans.{closedAt, uptoOf, rawFormatOf}
 
@@ -29,14 +29,10 @@ module _ (s : List ℕ) (n close : ℕ) where
   pub closed-some : 0 < close → (k : ℕ) → closedAt s n close ≡ Some k → (k ≡ n) × (n < length s) × (getD s n 0 ≡ close)
   closed-some h k q = go (eqb (getD s n 0) close) refl
     where
-      within : getD s n 0 ≡ close → Dec (n < length s) → n < length s
-      within e (yes l) = l
-      within e (no l) = absurd (omega (arith, sym (List·getD-eq-default s 0 {n = n} (omega arith)) ∙ e))
-
       go : (x : Bool) → eqb (getD s n 0) close ≡ x → (k ≡ n) × (n < length s) × (getD s n 0 ≡ close)
       go true e =
           let same = closed-hit (eqb-true _ _ e) in
-          (cc, within (eqb-true _ _ e) (decLt n (length s)), eqb-true _ _ e)
+          (cc, stands s n close (eqb-true _ _ e) h, eqb-true _ _ e)
       go false e = let none = closed-miss (eqb-false _ _ e) in let z : _≡_ {A = ℕ} 0 1 = cc in absurd (omega arith)
 
 -- a raw format of n bytes
