@@ -12,7 +12,7 @@ use Rattle.lex.specs.declared.lex.Token.{Token}
 use Rattle.lex.specs.declared.lex.Kind.the-variants.{Text, Newline, Nbsp, Hardbreak, Escape, Open, Close, Sym, Seq}
 use Rattle.lex.specs.declared.lex.Delimiter.the-variants.{Brace, BraceEqual, BraceHyphen, BracePlus, Bracket, Paren}
 use Rattle.lex.specs.declared.lex.Symbol.the-variants.{Asterisk, ExclaimBracket, Lt, Pipe, Colon}
-use Rattle.lex.specs.declared.lex.Sequence.the-variants.{Backtick, Period}
+use Rattle.lex.specs.declared.lex.Sequence.the-variants.{Backtick, Hyphen, Period}
 use Rattle.lex.specs.declared.lex.Next.the-variants.{Some, None}
 use Rattle.lex.specs.declared.lex.Cursor.{Cursor}
 use Rattle.lex.specs.Lexer.{token, lookup, starts, startOf, braces, hyphensOf, begunBy, escapedOf, lexed, texts, freshOf, foundBy, takenOf}
