@@ -1,8 +1,9 @@
 -- The laws of the scans that their callers cite: what is accepted ends before the line does, at the byte that closes.
 use Prim.Native.Nat.{ℕ, _≤_, _<_}
-use mathlib.Core.Path.{_≡_, refl, ap, _∙_}
+use mathlib.Core.Path.{_≡_, refl, sym, ap, _∙_}
 use mathlib.Core.List.{List}
 use mathlib.Core.Bool.{Bool, true, false}
+use native.Mathlib.Decide.{ℕ-discrete}
 use native.Mathlib.Omega.{arith}
 use borrow.Author.Tests.{eqb-false}
 use lib.Dec.{eqb}
@@ -40,6 +41,18 @@ module _ (s : List ℕ) (n : ℕ) where
   pub autolink-some : autolinkOf s ≡ Some n → Accepted Address 62 s n
   unfolding autolinkOf
   autolink-some e = upto-some Address 62 (omega arith) (tried (marked (take (run (inSet Address) s) s)) (uptoOf Address 62 s) n e)
+
+  -- an address has a `:` or `@`
+  pub autolink-long : autolinkOf s ≡ Some n → 1 ≤ n
+  unfolding autolinkOf marked
+  autolink-long e = go (ℕ-discrete n 0)
+    where
+      go : Dec (n ≡ 0) → 1 ≤ n
+      go (no h) = omega arith
+      go (yes h) =
+          let z : run (inSet Address) s ≡ 0 = sym (autolink-some e .long) ∙ h in
+          let none = rw (z, autolinkOf) at e in
+          let z : _≡_ {A = ℕ} 0 1 = cc in absurd (omega arith)
 
   pub symbol-some : symbolOf s ≡ Some n → Accepted Name 58 s n
   unfolding symbolOf

@@ -1,0 +1,10 @@
+pub mod Rows
+pub mod Spans
+pub mod Matching
+pub mod Queue
+pub mod Good
+pub mod Tables
+pub mod Places
+pub mod Containing
+pub mod Scanning
+pub mod Backticks

@@ -1,0 +1,160 @@
+-- Events (document 01, "What it reads and what it hands out"): their kinds, homes and link numbers.
+use Prim.Native.Nat.{ℕ, _+_, _-_}
+use mathlib.Core.List.{List, [], _∷_}
+use Rattle.reading.specs.declared.Place.{Place}
+use Rattle.reading.specs.declared.Link.{Link}
+use Rattle.reading.specs.declared.Event.{Event}
+
+-- a byte place and a link number are two types
+abbrev pub place : ℕ → Place
+place n = record { 0 = n }
+
+abbrev pub link : ℕ → Link
+link n = record { 0 = n }
+
+-- the kinds that neither open nor close
+abbrev pub str : ℕ
+str = 1
+
+abbrev pub softbreak : ℕ
+softbreak = 2
+
+abbrev pub hardbreak : ℕ
+hardbreak = 3
+
+abbrev pub escape : ℕ
+escape = 4
+
+abbrev pub nbsp : ℕ
+nbsp = 5
+
+abbrev pub ellipsis : ℕ
+ellipsis = 6
+
+abbrev pub endash : ℕ
+endash = 7
+
+abbrev pub emdash : ℕ
+emdash = 8
+
+abbrev pub left-single : ℕ
+left-single = 9
+
+abbrev pub right-single : ℕ
+right-single = 10
+
+abbrev pub left-double : ℕ
+left-double = 11
+
+abbrev pub right-double : ℕ
+right-double = 12
+
+abbrev pub symbol : ℕ
+symbol = 13
+
+abbrev pub footnote : ℕ
+footnote = 14
+
+-- the containers, in the order of the Rust's `Container`
+abbrev pub subscript : ℕ
+subscript = 1
+
+abbrev pub superscript : ℕ
+superscript = 2
+
+abbrev pub insert : ℕ
+insert = 3
+
+abbrev pub delete : ℕ
+delete = 4
+
+abbrev pub emphasis : ℕ
+emphasis = 5
+
+abbrev pub strong : ℕ
+strong = 6
+
+abbrev pub mark : ℕ
+mark = 7
+
+abbrev pub verbatim : ℕ
+verbatim = 8
+
+abbrev pub raw-format : ℕ
+raw-format = 9
+
+abbrev pub inline-math : ℕ
+inline-math = 10
+
+abbrev pub display-math : ℕ
+display-math = 11
+
+abbrev pub reference-link : ℕ
+reference-link = 12
+
+abbrev pub reference-image : ℕ
+reference-image = 13
+
+abbrev pub inline-link : ℕ
+inline-link = 14
+
+abbrev pub inline-image : ℕ
+inline-image = 15
+
+abbrev pub autolink : ℕ
+autolink = 16
+
+abbrev pub enter : ℕ → ℕ
+enter k = 32 + k
+
+abbrev pub exit : ℕ → ℕ
+exit k = 64 + k
+
+-- a home: 0 none, 1 the text, 2 the label room; from where to where in it; and the link number
+pub record Home : Type 0 where
+  pub home : ℕ
+  pub start : Place
+  pub end : Place
+  pub link : Link
+
+-- fields with no meaning are 0
+abbrev pub nowhere : Home
+nowhere = record { home = 0; start = place 0; end = place 0; link = link 0 }
+
+abbrev pub in-text : ℕ → ℕ → Home
+in-text a b = record { home = 1; start = place a; end = place b; link = link 0 }
+
+abbrev pub homeOf : Event → Home
+homeOf e = record { home = e .home; start = e .«home_start»; end = e .«home_end»; link = e .link }
+
+-- an event with its span and home
+abbrev pub homed : ℕ → Home → ℕ → ℕ → Event
+homed kind h a b =
+    record {
+      kind = kind;
+      start = place a;
+      end = place b;
+      home = h .home;
+      «home_start» = h .start;
+      «home_end» = h .end;
+      link = h .link;
+    }
+
+abbrev pub event : ℕ → ℕ → ℕ → Event
+event kind a b = homed kind nowhere a b
+
+-- another kind and home for an event, whose span stays
+abbrev pub becomes : ℕ → Home → Event → Event
+becomes kind h e = homed kind h (e .start .0) (e .end .0)
+
+-- the same, with another end
+abbrev pub becomes-to : ℕ → Home → ℕ → Event → Event
+becomes-to kind h b e = homed kind h (e .start .0) b
+
+-- an event that is n bytes shorter at its end
+abbrev pub shorter : ℕ → Event → Event
+shorter n e = homed (e .kind) (homeOf e) (e .start .0) (e .end .0 - n)
+
+-- the exit for an enter: the same container and home
+abbrev pub exit-of : Event → ℕ → ℕ → Event
+exit-of e a b = homed (e .kind + 32) (homeOf e) a b

@@ -1,0 +1,11 @@
+pub mod Events
+pub mod Machine
+pub mod Tokens
+pub mod Atoms
+pub mod Verbatim
+pub mod Labels
+pub mod Containers
+pub mod Reading
+pub mod Draining
+pub mod Walked
+pub mod Questions

@@ -1,0 +1,135 @@
+-- Questions asked of a sheet, in order, and what every room holds afterwards (document 01, "Questions asked of a sheet, in order").
+use Prim.Native.Nat.{ℕ, zero, suc, _+_, _-_, _*_, _/_}
+use mathlib.Core.List.{List, [], _∷_, _++_, map}
+use mathlib.Core.Bool.{Bool, true, false, not, _&&_, _||_}
+use lib.Dec.{leb, ltb, eqb}
+use lib.ListN.{length, replicate}
+
+use Rattle.reading.specs.declared.Line.{Line}
+use Rattle.reading.specs.declared.Place.{Place}
+use Rattle.reading.specs.declared.Event.{Event}
+use Rattle.reading.specs.declared.Refused.{Refused}
+use Rattle.reading.specs.declared.Refused.the-variants as refused
+use Rattle.reading.specs.declared.Answer.{Answer}
+use Rattle.reading.specs.Machine.{State}
+use Rattle.reading.specs.Reading.{read}
+use Rattle.reading.specs.Draining.{drain}
+
+-- N, the sum of the line lengths
+unfoldable pub total : List Line → ℕ
+total [] = 0
+total (l ∷ ls) = (l .end - l .start) + total ls
+
+-- the index of the first line for which a test fails, or the number of lines
+unfoldable pub first-outside : List ℕ → List Line → ℕ
+first-outside text [] = 0
+first-outside text (l ∷ ls) = elim (leb (l .start) (l .end) && leb (l .end) (length text)) [ true ↦ suc (first-outside text ls) | false ↦ 0 ]
+
+-- the index of the first line that starts before the end of the one before, which is a
+unfoldable pub first-early : ℕ → List Line → ℕ
+first-early a [] = 0
+first-early a (l ∷ ls) = elim (leb a (l .start)) [ true ↦ suc (first-early (l .end) ls) | false ↦ 0 ]
+
+-- the four rooms
+pub record Rooms : Type 0 where
+  pub events : List ℕ
+  pub queue : List ℕ
+  pub openers : List ℕ
+  pub labels : List ℕ
+
+pub record Outcome : Type 0 where
+  pub answer : Answer
+  pub rooms : Rooms
+
+abbrev largest : ℕ
+largest = 1048576
+
+-- of a longer label room only so many bytes count
+abbrev pub label-room : List ℕ → ℕ
+label-room room = elim (leb (length room) 4294967295) [ true ↦ length room | false ↦ 4294967295 ]
+
+-- a refusal before anything was written
+abbrev pub refuses : ℕ → ℕ → Rooms → Outcome
+refuses code at rooms = record { answer = record { code = code; place = at; events = 0; labels = 0 }; rooms = rooms }
+
+abbrev pub zeros : List ℕ → List ℕ
+zeros room = replicate (length room) 0
+
+-- a list from the front of a room, and zero behind it
+abbrev pub filled : List ℕ → List ℕ → List ℕ
+filled l room = l ++ replicate (length room - length l) 0
+
+abbrev pub cleared : Rooms → Rooms
+cleared rooms =
+    record { events = zeros (rooms .events); queue = zeros (rooms .queue); openers = zeros (rooms .openers); labels = zeros (rooms .labels) }
+
+-- the seven numbers of each event
+unfoldable pub numbers : List Event → List ℕ
+numbers [] = []
+numbers (e ∷ es) =
+    e .kind
+    ∷ e .start .0
+    ∷ e .end .0
+    ∷ e .home
+    ∷ e .«home_start» .0
+    ∷ e .«home_end» .0
+    ∷ e .link .0
+    ∷ numbers es
+
+-- 9: does the event room hold all the events? The last question
+unfoldable pub handed-out : List Event → List ℕ → Rooms → Outcome
+handed-out es labels rooms =
+    elim (leb (length es) (length (rooms .events) / 7)) [
+      | false ↦ refuses 9 0 (cleared rooms)
+      | true ↦ record {
+        answer = record { code = 0; place = 0; events = length es; labels = length labels };
+        rooms = record {
+          events = filled (numbers es) (rooms .events);
+          queue = zeros (rooms .queue);
+          openers = zeros (rooms .openers);
+          labels = filled labels (rooms .labels);
+        };
+      }
+    ]
+
+-- 7: is every bare opening brace inside verbatim? 8: does the label room hold all the labels built?
+unfoldable pub judged : Refused → Bool → State → Rooms → Outcome
+judged (refused.At p) fits s rooms = refuses 7 (p .0) (cleared rooms)
+judged refused.No false s rooms = refuses 8 0 (cleared rooms)
+judged refused.No true s rooms = handed-out (drain (s .queue)) (s .labels) rooms
+
+-- the whole answer, and the rooms at its end
+unfoldable pub outcome : List ℕ → List Line → ℕ → Rooms → Outcome
+outcome text ls reading rooms =
+    -- 1: is the reading 0 or 1?
+    elim (leb reading 1) [
+      | false ↦ refuses 1 0 rooms
+      | true ↦
+          -- 2: is the text at most 1,048,576 bytes, and the line list at most 1,048,576 records?
+          elim (leb (length text) largest && leb (length ls) largest) [
+            | false ↦ refuses 2 0 rooms
+            | true ↦
+                -- 3: has every line start ≤ end ≤ text length?
+                elim (ltb (first-outside text ls) (length ls)) [
+                  | true ↦ refuses 3 (first-outside text ls) rooms
+                  | false ↦
+                      -- 4: does each line start at or after the end of the one before?
+                      elim (ltb (first-early 0 ls) (length ls)) [
+                        | true ↦ refuses 4 (first-early 0 ls) rooms
+                        | false ↦
+                            -- 5: has the queue room at least 2N + 1 records?
+                            elim (leb (2 * total ls + 1) (length (rooms .queue) / 8)) [
+                              | false ↦ refuses 5 0 rooms
+                              | true ↦
+                                  -- 6: has the opener room at least N records?
+                                  elim (leb (total ls) (length (rooms .openers) / 4)) [
+                                    | false ↦ refuses 6 0 rooms
+                                    | true ↦
+                                        let s = read text ls reading (label-room (rooms .labels)) in
+                                        judged (s .refused) (s .fits) s rooms
+                                  ]
+                            ]
+                      ]
+                ]
+          ]
+    ]

@@ -1,0 +1,197 @@
+-- The reading: a step on a token, repeated to the end of the line, for every line; and the end. The order of the rules is that of the Rust's
+-- `parse_event`.
+use Prim.Native.Nat.{ℕ, zero, suc, _+_, _-_}
+use mathlib.Core.List.{List, [], _∷_, _++_, map}
+use mathlib.Core.Bool.{Bool, true, false}
+use lib.Dec.{leb, ltb}
+use lib.ListN.{length, drop}
+use Rattle.lex.specs.declared.lex.Token.{Token}
+use Rattle.lex.specs.declared.lex.Next.{Next}
+use Rattle.lex.specs.declared.lex.Next.the-variants as next
+use Rattle.lex.specs.declared.lex.Cursor.{Cursor}
+use Rattle.lex.specs.declared.lex.Lexed.{Lexed}
+use Rattle.lex.specs.Lexer.{freshOf, nextOf, peekOf}
+use Rattle.scan.specs.declared.Ahead.{Ahead}
+use Rattle.scan.specs.declared.Ahead.the-variants as ahead
+use Rattle.scan.specs.Scans.{autolinkOf, symbolOf, footnoteOf}
+use Rattle.dash.specs.Dashes.{dashesOf}
+use Rattle.reading.specs.declared.Line.{Line}
+use Rattle.reading.specs.declared.Role.{Role}
+use Rattle.reading.specs.declared.Role.the-variants as role
+use Rattle.reading.specs.declared.Inside.{Inside}
+use Rattle.reading.specs.declared.Inside.the-variants as inside
+use Rattle.reading.specs.declared.Refused.{Refused}
+use Rattle.reading.specs.declared.Refused.the-variants as refused
+use Rattle.reading.specs.Events.{place, str, symbol, footnote}
+use Rattle.reading.specs.Machine.{View, Rules, Sheet, State, Turn, Here, viewOf, rulesOf, puts, put, no-str}
+use Rattle.reading.specs.Tokens.{role-of, is-caret, plain, bracket}
+use Rattle.reading.specs.Atoms.{dashes, dots, autolinked, named}
+use Rattle.reading.specs.Verbatim.{opens-verbatim, in-verbatim, drops-at, moved-on, flag-of, ended-at}
+use Rattle.reading.specs.Containers.{container}
+
+-- a bare opening brace: the sheet is refused, and later steps change nothing
+abbrev pub refuse : ℕ → State → State
+refuse at s =
+    record {
+      queue = s .queue;
+      openers = s .openers;
+      inside = s .inside;
+      last = s .last;
+      labels = s .labels;
+      fits = s .fits;
+      links = s .links;
+      refused = refused.At (place at);
+    }
+
+-- a Str
+abbrev pub as-str : View → Here → State → Turn
+as-str v h s = record { cursor = h .cursor; state = put v str (h .from) (h .to) s }
+
+-- `<`
+unfoldable pub angle : Sheet → View → Here → Ahead → State → Turn
+angle x v h (ahead.Some n) s = autolinked v h n s
+angle x v h ahead.None s = container x v h (plain str) s
+
+-- `:`
+unfoldable pub colon : Sheet → View → Here → Ahead → State → Turn
+colon x v h (ahead.Some n) s = named symbol v h n s
+colon x v h ahead.None s = container x v h (plain str) s
+
+-- `[^`
+unfoldable pub noted : Sheet → View → Here → Ahead → State → Turn
+noted x v h (ahead.Some n) s = named footnote v h n s
+noted x v h ahead.None s = container x v h bracket s
+
+-- `[`: with `^` behind it, lexed, the two are one token of two bytes, whether or not the scan accepts
+unfoldable pub bracketed : Sheet → View → Here → Lexed → Next → State → Turn
+bracketed x v h p next.None s = container x v (record { from = h .from; to = h .to; cursor = p .cursor }) bracket s
+bracketed x v h p (next.Some t) s =
+    elim (is-caret (role-of (t .kind))) [
+      | true ↦ let j = h .to + t .len in
+          noted x v (record { from = h .from; to = j; cursor = nextOf (v .bytes) (p .cursor) .cursor }) (footnoteOf (drop j (v .bytes))) s
+      | false ↦ container x v (record { from = h .from; to = h .to; cursor = p .cursor }) bracket s
+    ]
+
+-- a token outside verbatim
+unfoldable pub outside : Sheet → View → Here → Role → State → Turn
+outside x v h role.Backticks s = elim (leb (h .to - h .from) 255) [ true ↦ opens-verbatim v h s | false ↦ container x v h (plain str) s ]
+outside x v h role.Brace s = record { cursor = h .cursor; state = refuse (v .base + h .from) s }
+outside x v h role.Lt s = angle x v h (autolinkOf (drop (h .to) (v .bytes))) s
+outside x v h role.Colon s = colon x v h (symbolOf (drop (h .to) (v .bytes))) s
+outside x v h role.Bracket s = let p = peekOf (v .bytes) (h .cursor) in bracketed x v h p (p .token) s
+outside x v h role.Paren s = container x v h (plain str) s
+outside x v h role.Periods s = record { cursor = h .cursor; state = dots v (h .from) (h .to - h .from) s }
+outside x v h role.Hyphens s =
+    elim (ltb (h .to - h .from) 2) [
+      | true ↦ container x v h (plain str) s
+      | false ↦ record { cursor = h .cursor; state = puts (dashes (dashesOf (h .to - h .from)) (v .base + h .from)) no-str s }
+    ]
+outside x v h (role.Other m) s = container x v h m s
+
+unfoldable pub by-place : Sheet → View → Here → Token → Inside → State → Turn
+by-place x v h t inside.No s = outside x v h (role-of (t .kind)) s
+by-place x v h t (inside.Verbatim w) s = in-verbatim (x .rules) v h t w s
+
+-- where a token stands that was taken at a cursor
+abbrev pub here-at : Cursor → Token → Cursor → Here
+here-at c t behind = record { from = c .pos; to = c .pos + t .len; cursor = behind }
+
+-- at the end of the line nothing changes
+unfoldable pub on-token : Sheet → View → Turn → Next → Cursor → Turn
+on-token x v a next.None c = a
+on-token x v a (next.Some t) c = by-place x v (here-at (a .cursor) t c) t (a .state .inside) (a .state)
+
+unfoldable pub unless-refused : Sheet → View → Turn → Refused → Turn
+unless-refused x v a (refused.At p) = a
+unless-refused x v a refused.No = let l = nextOf (v .bytes) (a .cursor) in on-token x v a (l .token) (l .cursor)
+
+-- one step
+abbrev pub step : Sheet → View → Turn → Turn
+step x v a = unless-refused x v a (a .state .refused)
+
+unfoldable pub steps : ℕ → Sheet → View → Turn → Turn
+steps zero x v a = a
+steps (suc n) x v a = steps n x v (step x v a)
+
+-- a new line: a fresh cursor, no escape pending
+abbrev pub begun : Sheet → View → State → Turn
+begun x v s =
+    record {
+      cursor = freshOf 0 (flag-of (x .rules) (s .inside));
+      state = record {
+        queue = s .queue;
+        openers = s .openers;
+        inside = moved-on (s .inside);
+        last = s .last;
+        labels = s .labels;
+        fits = s .fits;
+        links = s .links;
+        refused = s .refused;
+      };
+    }
+
+-- a line: as many steps as it has bytes, since each takes one at least
+abbrev pub line : Sheet → View → State → State
+line x v s = steps (length (v .bytes)) x v (begun x v s) .state
+
+unfoldable pub lines : Sheet → List View → State → State
+lines x [] s = s
+lines x (v ∷ vs) s = lines x vs (line x v s)
+
+abbrev pub start : State
+start =
+    record {
+      queue = [];
+      openers = [];
+      inside = inside.No;
+      last = no-str;
+      labels = [];
+      fits = true;
+      links = 0;
+      refused = refused.No;
+    }
+
+-- the last line's end
+unfoldable pub end-of : List Line → ℕ → ℕ
+end-of [] a = a
+end-of (l ∷ ls) a = end-of ls (l .end)
+
+-- what the lines of a sheet give
+abbrev pub views : List ℕ → List Line → List View
+views text ls = map (viewOf text) ls
+
+abbrev pub sheet : List ℕ → ℕ → ℕ → Sheet
+sheet text reading room = record { rules = rulesOf reading; text = text; room = room }
+
+abbrev pub read : List ℕ → List Line → ℕ → ℕ → State
+read text ls reading room =
+    let s = lines (sheet text reading room) (views text ls) start in
+    ended-at (end-of ls 0) (s .inside) s
+
+-- the blanks that are dropped, told as the steps go: at a token in verbatim, by the verbatim rule
+unfoldable drops-in : View → Here → Token → Inside → State → List Line
+drops-in v h t inside.No s = []
+drops-in v h t (inside.Verbatim w) s = drops-at v h t w s
+
+unfoldable drops-on : View → Turn → Next → Cursor → List Line
+drops-on v a next.None c = []
+drops-on v a (next.Some t) c = drops-in v (here-at (a .cursor) t c) t (a .state .inside) (a .state)
+
+unfoldable drops-unless : View → Turn → Refused → List Line
+drops-unless v a (refused.At p) = []
+drops-unless v a refused.No = let l = nextOf (v .bytes) (a .cursor) in drops-on v a (l .token) (l .cursor)
+
+unfoldable pub step-drops : View → Turn → List Line
+unfolding drops-in drops-on drops-unless
+step-drops v a = drops-unless v a (a .state .refused)
+
+unfoldable pub steps-drop : ℕ → Sheet → View → Turn → List Line
+steps-drop zero x v a = []
+steps-drop (suc n) x v a = step-drops v a ++ steps-drop n x v (step x v a)
+
+unfoldable pub lines-drop : Sheet → List View → State → List Line
+lines-drop x [] s = []
+lines-drop x (v ∷ vs) s = steps-drop (length (v .bytes)) x v (begun x v s) ++ lines-drop x vs (line x v s)
+
+abbrev pub dropped : List ℕ → List Line → ℕ → ℕ → List Line
+dropped text ls reading room = lines-drop (sheet text reading room) (views text ls) start

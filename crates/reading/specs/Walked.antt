@@ -1,0 +1,64 @@
+-- Walked events (document 01, "Walked events"): what is to hold of the events of every sheet that is read.
+use Prim.Native.Nat.{ℕ, _+_, _-_, _≤_, _<_}
+use mathlib.Core.Path.{_≡_}
+use mathlib.Core.List.{List, [], _∷_, map}
+use mathlib.Core.Bool.{Bool, true, false, _&&_}
+use mathlib.Core.Logic.{_⊎_}
+use lib.Dec.{leb, ltb}
+use Rattle.classes.specs.Classes.{bit}
+use Rattle.reading.specs.declared.Line.{Line}
+use Rattle.reading.specs.declared.Event.{Event}
+use Rattle.reading.specs.Events.{Home, homeOf}
+
+-- what an exit and an enter must agree in: k, home, home start, home end and link number
+pub record Tag : Type 0 where
+  pub k : ℕ
+  pub home : Home
+
+-- an enter opens, an exit closes the last one open, and other kinds do neither
+pub data Walk : Type 0 where
+  opening : Tag → Walk
+  closing : Tag → Walk
+  neither : Walk
+
+unfoldable pub walk-by : ℕ → Home → Walk
+walk-by kind h =
+    elim (ltb kind 32) [
+      | true ↦ neither
+      | false ↦ elim (ltb kind 64) [ true ↦ opening record { k = kind - 32; home = h } | false ↦ closing record { k = kind - 64; home = h } ]
+    ]
+
+abbrev pub walk-of : Event → Walk
+walk-of e = walk-by (e .kind) (homeOf e)
+
+-- every exit matches the last enter still open, and none is open at the end; ts are open, the last one first
+unfoldable pub Matches : List Walk → List Tag → Type 0
+Matches [] [] = Unit {0}
+Matches [] (t ∷ ts) = ⊥
+Matches (neither ∷ es) ts = Matches es ts
+Matches (opening t ∷ es) ts = Matches es (t ∷ ts)
+Matches (closing t ∷ es) [] = ⊥
+Matches (closing t ∷ es) (u ∷ ts) = (t ≡ u) × Matches es ts
+
+-- nothing is open at first
+abbrev pub Walked : List Event → Type 0
+Walked es = Matches (map walk-of es) []
+
+-- no span ends before it begins, and none begins before a, where the last one ended
+unfoldable pub Ordered : ℕ → List Event → Type 0
+Ordered a [] = Unit {0}
+Ordered a (e ∷ es) = (a ≤ e .start .0) × (e .start .0 ≤ e .end .0) × Ordered (e .end .0) es
+
+-- a byte is of one of some lines: of the fed lines, or of the dropped blanks
+unfoldable pub Of : List Line → ℕ → Type 0
+Of [] i = ⊥
+Of (l ∷ ls) i = ((l .start ≤ i) × (i < l .end)) ⊎ Of ls i
+
+-- how many spans a byte is under
+unfoldable pub under : ℕ → List Event → ℕ
+under i [] = 0
+under i (e ∷ es) = bit (leb (e .start .0) i && ltb i (e .end .0)) + under i es
+
+-- each byte of a fed line is under exactly one span, except that a byte of a dropped blank may be under none
+abbrev pub Covered : List Line → List Line → List Event → Type 0
+Covered fed dropped es = (i : ℕ) → Of fed i → (under i es ≡ 1) ⊎ ((under i es ≡ 0) × Of dropped i)
