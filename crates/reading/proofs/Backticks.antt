@@ -42,7 +42,7 @@ use Rattle.reading.proofs.Good.{Out, In, Good, GoodBy, Ends, LastOk, Bl
 use Rattle.reading.proofs.Places.{HereOk, Fine, fine-at, sound-flagged, peek-sound, peek-place}
 
 -- a line's bytes are those of the text
-pub Shows : List ℕ → View → Type 0
+unfoldable pub Shows : List ℕ → View → Type 0
 Shows text v = (j : ℕ) → j < length (v .bytes) → getD (v .bytes) j 0 ≡ getD text (v .base + j) 0
 
 -- the dollars that a run takes lie in the Str before it

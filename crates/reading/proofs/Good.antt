@@ -125,3 +125,9 @@ module _ (Loose : ℕ → Type 0) (text : List ℕ) where
   pub out-openers : (os : List Opener) (at n : ℕ) (s : State) → Out at n s → Parts (walks (s .queue)) os → length os ≤ n
       → Out at n (with-openers os s)
   out-openers os at n s o p l = record { covers = o .covers; parts = p; few = o .few; opens = l; last = o .last }
+
+  -- outside and inside, the queue and the openers are bounded
+  pub good-few : (w : Inside) (at n : ℕ) (s : State) → GoodBy w at n s → (length (s .queue) ≤ n) × (length (s .openers) ≤ n)
+  unfolding GoodBy
+  good-few inside.No at n s g = (g .few, g .opens)
+  good-few (inside.Verbatim w) at n s g = (g .few, g .opens)

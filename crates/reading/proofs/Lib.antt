@@ -8,3 +8,7 @@ pub mod Places
 pub mod Containing
 pub mod Scanning
 pub mod Backticks
+pub mod Stepping
+pub mod Drains
+pub mod Feeding
+pub mod Theorems

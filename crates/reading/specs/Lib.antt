@@ -7,5 +7,5 @@ pub mod Labels
 pub mod Containers
 pub mod Reading
 pub mod Draining
-pub mod Walked
 pub mod Questions
+pub mod Walked

@@ -1,5 +1,6 @@
 -- Questions asked of a sheet, in order, and what every room holds afterwards (document 01, "Questions asked of a sheet, in order").
 use Prim.Native.Nat.{ℕ, zero, suc, _+_, _-_, _*_, _/_}
+use mathlib.Core.Path.{_≡_}
 use mathlib.Core.List.{List, [], _∷_, _++_, map}
 use mathlib.Core.Bool.{Bool, true, false, not, _&&_, _||_}
 use lib.Dec.{leb, ltb, eqb}
@@ -12,7 +13,7 @@ use Rattle.reading.specs.declared.Refused.{Refused}
 use Rattle.reading.specs.declared.Refused.the-variants as refused
 use Rattle.reading.specs.declared.Answer.{Answer}
 use Rattle.reading.specs.Machine.{State}
-use Rattle.reading.specs.Reading.{read}
+use Rattle.reading.specs.Reading.{sheet, read}
 use Rattle.reading.specs.Draining.{drain}
 
 -- N, the sum of the line lengths
@@ -29,6 +30,11 @@ first-outside text (l ∷ ls) = elim (leb (l .start) (l .end) && leb (l .end) (l
 unfoldable pub first-early : ℕ → List Line → ℕ
 first-early a [] = 0
 first-early a (l ∷ ls) = elim (leb a (l .start)) [ true ↦ suc (first-early (l .end) ls) | false ↦ 0 ]
+
+-- lines that pass questions 3 and 4
+pub record Fed (text : List ℕ) (ls : List Line) : Type 0 where
+  pub inside : ltb (first-outside text ls) (length ls) ≡ false
+  pub apart : ltb (first-early 0 ls) (length ls) ≡ false
 
 -- the four rooms
 pub record Rooms : Type 0 where
@@ -125,7 +131,7 @@ outcome text ls reading rooms =
                                   elim (leb (total ls) (length (rooms .openers) / 4)) [
                                     | false ↦ refuses 6 0 rooms
                                     | true ↦
-                                        let s = read text ls reading (label-room (rooms .labels)) in
+                                        let s = read (sheet text reading (label-room (rooms .labels))) ls in
                                         judged (s .refused) (s .fits) s rooms
                                   ]
                             ]

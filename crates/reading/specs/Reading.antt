@@ -4,7 +4,7 @@ use Prim.Native.Nat.{ℕ, zero, suc, _+_, _-_}
 use mathlib.Core.List.{List, [], _∷_, _++_, map}
 use mathlib.Core.Bool.{Bool, true, false}
 use lib.Dec.{leb, ltb}
-use lib.ListN.{length, drop}
+use lib.ListN.{length, take, drop}
 use Rattle.lex.specs.declared.lex.Token.{Token}
 use Rattle.lex.specs.declared.lex.Next.{Next}
 use Rattle.lex.specs.declared.lex.Next.the-variants as next
@@ -156,33 +156,40 @@ unfoldable pub end-of : List Line → ℕ → ℕ
 end-of [] a = a
 end-of (l ∷ ls) a = end-of ls (l .end)
 
--- what the lines of a sheet give
 abbrev pub views : List ℕ → List Line → List View
 views text ls = map (viewOf text) ls
 
 abbrev pub sheet : List ℕ → ℕ → ℕ → Sheet
 sheet text reading room = record { rules = rulesOf reading; text = text; room = room }
 
-abbrev pub read : List ℕ → List Line → ℕ → ℕ → State
-read text ls reading room =
-    let s = lines (sheet text reading room) (views text ls) start in
+-- what the lines of a sheet give
+abbrev pub read : Sheet → List Line → State
+read x ls =
+    let s = lines x (views (x .text) ls) start in
     ended-at (end-of ls 0) (s .inside) s
 
+-- the state at any moment before the end: behind i lines and j steps
+unfoldable pub during : ℕ → Sheet → List View → State → State
+during j x [] s = s
+during j x (v ∷ vs) s = steps j x v (begun x v s) .state
+
+abbrev pub moment : Sheet → List Line → ℕ → ℕ → State
+moment x ls i j = during j x (views (x .text) (drop i ls)) (lines x (views (x .text) (take i ls)) start)
+
 -- the blanks that are dropped, told as the steps go: at a token in verbatim, by the verbatim rule
-unfoldable drops-in : View → Here → Token → Inside → State → List Line
+unfoldable pub drops-in : View → Here → Token → Inside → State → List Line
 drops-in v h t inside.No s = []
 drops-in v h t (inside.Verbatim w) s = drops-at v h t w s
 
-unfoldable drops-on : View → Turn → Next → Cursor → List Line
+unfoldable pub drops-on : View → Turn → Next → Cursor → List Line
 drops-on v a next.None c = []
 drops-on v a (next.Some t) c = drops-in v (here-at (a .cursor) t c) t (a .state .inside) (a .state)
 
-unfoldable drops-unless : View → Turn → Refused → List Line
+unfoldable pub drops-unless : View → Turn → Refused → List Line
 drops-unless v a (refused.At p) = []
 drops-unless v a refused.No = let l = nextOf (v .bytes) (a .cursor) in drops-on v a (l .token) (l .cursor)
 
 unfoldable pub step-drops : View → Turn → List Line
-unfolding drops-in drops-on drops-unless
 step-drops v a = drops-unless v a (a .state .refused)
 
 unfoldable pub steps-drop : ℕ → Sheet → View → Turn → List Line
@@ -193,5 +200,5 @@ unfoldable pub lines-drop : Sheet → List View → State → List Line
 lines-drop x [] s = []
 lines-drop x (v ∷ vs) s = steps-drop (length (v .bytes)) x v (begun x v s) ++ lines-drop x vs (line x v s)
 
-abbrev pub dropped : List ℕ → List Line → ℕ → ℕ → List Line
-dropped text ls reading room = lines-drop (sheet text reading room) (views text ls) start
+abbrev pub dropped : Sheet → List Line → List Line
+dropped x ls = lines-drop x (views (x .text) ls) start

@@ -5,10 +5,15 @@ use mathlib.Core.List.{List, [], _∷_, map}
 use mathlib.Core.Bool.{Bool, true, false, _&&_}
 use mathlib.Core.Logic.{_⊎_}
 use lib.Dec.{leb, ltb}
-use Rattle.classes.specs.Classes.{bit}
+use lib.ListN.{length, getD}
+use Rattle.classes.specs.Classes.{bit, blank}
 use Rattle.reading.specs.declared.Line.{Line}
 use Rattle.reading.specs.declared.Event.{Event}
 use Rattle.reading.specs.Events.{Home, homeOf}
+use Rattle.reading.specs.Machine.{Sheet}
+use Rattle.reading.specs.Reading.{read, dropped}
+use Rattle.reading.specs.Draining.{drain}
+use Rattle.reading.specs.Questions.{total}
 
 -- what an exit and an enter must agree in: k, home, home start, home end and link number
 pub record Tag : Type 0 where
@@ -62,3 +67,15 @@ under i (e ∷ es) = bit (leb (e .start .0) i && ltb i (e .end .0)) + under i es
 -- each byte of a fed line is under exactly one span, except that a byte of a dropped blank may be under none
 abbrev pub Covered : List Line → List Line → List Event → Type 0
 Covered fed dropped es = (i : ℕ) → Of fed i → (under i es ≡ 1) ⊎ ((under i es ≡ 0) × Of dropped i)
+
+-- the one list that the rules give
+abbrev pub events : Sheet → List Line → List Event
+events x ls = drain (read x ls .queue)
+
+-- demand 3, as one claim of the whole list
+pub record Whole (x : Sheet) (ls : List Line) : Type 0 where
+  pub walked : Walked (events x ls)
+  pub ordered : Ordered 0 (events x ls)
+  pub covered : Covered ls (dropped x ls) (events x ls)
+  pub blanks : (i : ℕ) → Of (dropped x ls) i → blank (getD (x .text) i 0) ≡ true
+  pub room : length (events x ls) ≤ total ls + 1

@@ -1,0 +1,150 @@
+-- Demand 3 of document 01: of every sheet whose lines pass questions 3 and 4 and that no bare brace refuses, for any bytes and any rules.
+use Prim.Native.Nat.{ℕ, zero, suc, _+_, _-_, _≤_, _<_}
+use mathlib.Core.Path.{_≡_, refl, sym, ap, _∙_, subst}
+use mathlib.Core.List.{List, [], _∷_, _++_, map, append-nil}
+use mathlib.Core.Bool.{Bool, true, false, _&&_}
+use mathlib.Core.Logic.{_⊎_, inl, inr, ⊎-elim}
+use native.Mathlib.Omega.{arith}
+use borrow.Author.Tests.{leb-true, ltb-false, le-ltb}
+use lib.Dec.{leb, ltb}
+use lib.ListN.{length, getD, take, drop}
+use Rattle.classes.specs.Classes.{blank}
+use Rattle.reading.specs.declared.Line.{Line}
+use Rattle.reading.specs.declared.Event.{Event}
+use Rattle.reading.specs.declared.Inside.{Inside}
+use Rattle.reading.specs.declared.Inside.the-variants as inside
+use Rattle.reading.specs.declared.Refused.{Refused}
+use Rattle.reading.specs.declared.Refused.the-variants as refused
+use Rattle.reading.specs.Machine.{Sheet, State}
+use Rattle.reading.specs.Verbatim.{ended-at}
+use Rattle.reading.specs.Reading.{lines, views, start, end-of, read, dropped, moment}
+use Rattle.reading.specs.Draining.{drain}
+use Rattle.reading.specs.Questions.{total, first-outside, first-early, Fed}
+use Rattle.reading.specs.Walked.{Walked, Ordered, Of, Covered, Whole, Matches, under, events}
+use Rattle.reading.proofs.Matching.{Still, parts-all}
+use Rattle.reading.proofs.Spans.{Gap, Covers, gap-none}
+use Rattle.reading.proofs.Queue.{walks}
+use Rattle.reading.proofs.Good.{Out}
+use Rattle.reading.proofs.Drains.{drained-walk, drained-covers, drain-few, covers-ordered, under-one}
+use Rattle.reading.proofs.Feeding.{Rising, Apart, Stood, lines-stood, lines-blank, start-stood, during-few, read-out}
+
+lower : (a b : ℕ) → ltb (suc a) (suc b) ≡ false → ltb a b ≡ false
+lower a b e = le-ltb a b (omega (arith, ltb-false (suc a) (suc b) e))
+
+-- questions 3 and 4: each line lies within the text, and behind the one before
+rising : (text : List ℕ) (a : ℕ) (ls : List Line) → ltb (first-outside text ls) (length ls) ≡ false → ltb (first-early a ls) (length ls) ≡ false
+    → Rising text a ls
+unfolding Rising first-outside first-early
+rising text a [] e f = tt
+rising text a (l ∷ ls) e f =
+    go (leb (l .start) (l .end)) refl (leb (l .end) (length text)) refl (leb a (l .start)) refl e f (λ e f. rising text (l .end) ls e f)
+  where
+    go : (p : Bool) → leb (l .start) (l .end) ≡ p → (q : Bool) → leb (l .end) (length text) ≡ q → (r : Bool) → leb a (l .start) ≡ r
+        → ltb (elim (p && q) [ true ↦ suc (first-outside text ls) | false ↦ 0 ]) (suc (length ls)) ≡ false
+        → ltb (elim r [ true ↦ suc (first-early (l .end) ls) | false ↦ 0 ]) (suc (length ls)) ≡ false
+        → (ltb (first-outside text ls) (length ls) ≡ false → ltb (first-early (l .end) ls) (length ls) ≡ false → Rising text (l .end) ls)
+        → (a ≤ l .start) × (l .start ≤ l .end) × (l .end ≤ length text) × Rising text (l .end) ls
+    go true p true q true r e f k =
+        (leb-true a (l .start) r, leb-true (l .start) (l .end) p, leb-true (l .end) (length text) q,
+        k (lower (first-outside text ls) (length ls) e) (lower (first-early (l .end) ls) (length ls) f))
+    go false p q q' r r' e f k = absurd (omega (arith, ltb-false 0 (suc (length ls)) e))
+    go true p false q r r' e f k = absurd (omega (arith, ltb-false 0 (suc (length ls)) e))
+    go true p true q false r e f k = absurd (omega (arith, ltb-false 0 (suc (length ls)) f))
+
+-- a byte of rising lines lies behind their start and before their end
+of-behind : (text : List ℕ) (a : ℕ) (ls : List Line) (i : ℕ) → Rising text a ls → Of ls i → a ≤ i
+unfolding Rising Of
+of-behind text a [] i r o = absurd o
+of-behind text a (l ∷ ls) i r (inl y) = omega (arith, r .0, y .0)
+of-behind text a (l ∷ ls) i r (inr y) = omega (arith, r .0, r .1, of-behind text (l .end) ls i (r .3) y)
+
+of-before : (text : List ℕ) (a : ℕ) (ls : List Line) (i : ℕ) → Rising text a ls → Of ls i → i < end-of ls a
+unfolding Rising Of end-of
+of-before text a [] i r o = absurd o
+of-before text a (l ∷ ls) i r (inl y) = omega (arith, y .1, end-up text (l .end) ls (r .3))
+  where
+    end-up : (text : List ℕ) (a : ℕ) (ls : List Line) → Rising text a ls → a ≤ end-of ls a
+    end-up text a [] r = omega arith
+    end-up text a (l ∷ ls) r = omega (arith, r .0, r .1, end-up text (l .end) ls (r .3))
+of-before text a (l ∷ ls) i r (inr y) = of-before text (l .end) ls i (r .3) y
+
+module _ (x : Sheet) where
+  -- between two lines no byte is fed
+  apart : (Loose : ℕ → Type 0) (all : List Line) → ((i : ℕ) → (Of all i → ⊥) → Loose i) → (a : ℕ) (ls : List Line) → Rising (x .text) a ls
+      → ((i : ℕ) → a ≤ i → Of all i → Of ls i) → Apart Loose (x .text) x a ls
+  unfolding Rising Apart Of
+  apart Loose all f a [] r h = tt
+  apart Loose all f a (l ∷ ls) r h =
+      (record {
+        up = r .0;
+        loose = λ i lo hi. f i (λ o.
+            let b = of-behind (x .text) (l .start) (l ∷ ls) i (omega arith, r .1, r .2, r .3) (h i lo o) in
+            absurd (omega (arith, b, hi)));
+      },
+      apart Loose all f (l .end) ls (r .3) (λ i lo o. rest i lo (h i (omega (arith, lo, r .0, r .1)) o)))
+    where
+      rest : (i : ℕ) → l .end ≤ i → Of (l ∷ ls) i → Of ls i
+      rest i lo (inl y) = absurd (omega (arith, lo, y .1))
+      rest i lo (inr y) = y
+
+  ended-refused : (b : ℕ) (w : Inside) (s : State) → ended-at b w s .refused ≡ s .refused
+  unfolding ended-at
+  ended-refused b inside.No s = refl
+  ended-refused b (inside.Verbatim w) s = refl
+
+  module _ (ls : List Line) (fed : Fed (x .text) ls) where
+    up : Rising (x .text) 0 ls
+    up = rising (x .text) 0 ls (fed .inside) (fed .apart)
+
+    -- a byte needs no span if it is of no fed line, or of a dropped blank
+    abbrev Loose : ℕ → Type 0
+    Loose i = Of ls i → Of (dropped x ls) i
+
+    gaps : Apart Loose (x .text) x 0 ls
+    gaps = apart Loose ls (λ i n o. absurd (n o)) 0 ls up (λ i l o. o)
+
+    told : (i : ℕ) → Of (dropped x ls) i → Loose i
+    told i d o = d
+
+    -- a dropped byte is a blank
+    pub blanks : (i : ℕ) → Of (dropped x ls) i → blank (getD (x .text) i 0) ≡ true
+    blanks i d = lines-blank Loose (x .text) x ls 0 0 start up gaps (start-stood Loose (x .text) x) told i d
+
+    module _ (taken : read x ls .refused ≡ refused.No) where
+      abbrev before : State
+      before = lines x (views (x .text) ls) start
+
+      out : Out Loose (x .text) (end-of ls 0) (suc (total ls)) (read x ls)
+      out =
+          read-out Loose (x .text) x ls up gaps told before refl
+          (sym (ended-refused (end-of ls 0) (before .inside) before) ∙ taken)
+
+      -- every exit matches the last enter still open, and none is open at the end
+      pub walked : Walked (events x ls)
+      unfolding Still Matches
+      walked =
+          drained-walk 0 0 (read x ls .queue) []
+          (subst (λ (w : List _). Matches w []) (append-nil (walks (read x ls .queue)))
+          (parts-all (walks (read x ls .queue)) (read x ls .openers) (out .parts) [] [] tt))
+
+      cover : Covers Loose 0 (events x ls) (end-of ls 0)
+      cover = drained-covers Loose 0 0 0 (read x ls .queue) (end-of ls 0) (gap-none Loose 0) (omega arith) (out .covers)
+
+      -- no span ends before it begins, none begins before the last one ended
+      pub ordered : Ordered 0 (events x ls)
+      ordered = covers-ordered Loose 0 (events x ls) (end-of ls 0) cover
+
+      -- each byte of a fed line is under one span, or is of a dropped blank and under none
+      pub covered : Covered ls (dropped x ls) (events x ls)
+      covered i o = go (under-one Loose i 0 (events x ls) (end-of ls 0) cover (omega arith) (of-before (x .text) 0 ls i up o))
+        where
+          go : (under i (events x ls) ≡ 1) ⊎ ((under i (events x ls) ≡ 0) × Loose i) → (under i (events x ls) ≡ 1) ⊎ ((under i (events x ls) ≡ 0) × Of (dropped x ls) i)
+          go (inl e) = inl e
+          go (inr y) = inr (y .0, y .1 o)
+
+      -- at most N + 1 events
+      pub room : length (events x ls) ≤ total ls + 1
+      room = omega (arith, drain-few (read x ls .queue), out .few)
+
+      pub whole : Whole x ls
+      whole = record { walked = walked; ordered = ordered; covered = covered; blanks = blanks; room = room }
