@@ -56,7 +56,7 @@ Rising text a (l ∷ ls) = (a ≤ l .start) × (l .start ≤ l .end) × (l .end 
 view-long : (text : List ℕ) (l : Line) → l .start ≤ l .end → l .end ≤ length text → length (viewOf text l .bytes) ≡ l .end - l .start
 view-long text l a b = length-take-le (l .end - l .start) (drop (l .start) text) (omega (arith, length-drop (l .start) text))
 
-view-shows : (text : List ℕ) (l : Line) → l .start ≤ l .end → l .end ≤ length text → Shows text (viewOf text l)
+pub view-shows : (text : List ℕ) (l : Line) → l .start ≤ l .end → l .end ≤ length text → Shows text (viewOf text l)
 unfolding Shows
 view-shows text l a b j h =
     getD-take (l .end - l .start) (drop (l .start) text) j 0 (omega (arith, view-long text l a b)) ∙ getD-drop (l .start) text j 0

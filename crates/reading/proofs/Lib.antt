@@ -12,3 +12,4 @@ pub mod Stepping
 pub mod Drains
 pub mod Feeding
 pub mod Theorems
+pub mod Answers

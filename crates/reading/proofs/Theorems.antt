@@ -4,10 +4,11 @@ use mathlib.Core.Path.{_≡_, refl, sym, ap, _∙_, subst}
 use mathlib.Core.List.{List, [], _∷_, _++_, map, append-nil}
 use mathlib.Core.Bool.{Bool, true, false, _&&_}
 use mathlib.Core.Logic.{_⊎_, inl, inr, ⊎-elim}
+use native.Mathlib.Nat.{zero-add, suc-add}
 use native.Mathlib.Omega.{arith}
 use borrow.Author.Tests.{leb-true, ltb-false, le-ltb}
 use lib.Dec.{leb, ltb}
-use lib.ListN.{length, getD, take, drop}
+use lib.ListN.{length, getD, take, drop, length-append}
 use Rattle.classes.specs.Classes.{blank}
 use Rattle.reading.specs.declared.Line.{Line}
 use Rattle.reading.specs.declared.Event.{Event}
@@ -15,9 +16,14 @@ use Rattle.reading.specs.declared.Inside.{Inside}
 use Rattle.reading.specs.declared.Inside.the-variants as inside
 use Rattle.reading.specs.declared.Refused.{Refused}
 use Rattle.reading.specs.declared.Refused.the-variants as refused
-use Rattle.reading.specs.Machine.{Sheet, State}
-use Rattle.reading.specs.Verbatim.{ended-at}
-use Rattle.reading.specs.Reading.{lines, views, start, end-of, read, dropped, moment}
+use Rattle.lex.specs.declared.lex.Next.{Next}
+use Rattle.lex.specs.declared.lex.Next.the-variants as next
+use Rattle.lex.specs.Lexer.{nextOf}
+use Rattle.lex.proofs.Laws.{Sound, next-stepped, next-sounded}
+use Rattle.reading.specs.Machine.{View, Sheet, State, Turn, viewOf}
+use Rattle.reading.specs.Events.{exit-of}
+use Rattle.reading.specs.Verbatim.{nothing, ended-at}
+use Rattle.reading.specs.Reading.{on-token, unless-refused, step, steps, begun, lines, views, start, end-of, read, dropped, moment}
 use Rattle.reading.specs.Draining.{drain}
 use Rattle.reading.specs.Questions.{total, first-outside, first-early, Fed}
 use Rattle.reading.specs.Walked.{Walked, Ordered, Of, Covered, Whole, Matches, under, events}
@@ -27,6 +33,7 @@ use Rattle.reading.proofs.Queue.{walks}
 use Rattle.reading.proofs.Good.{Out}
 use Rattle.reading.proofs.Drains.{drained-walk, drained-covers, drain-few, covers-ordered, under-one}
 use Rattle.reading.proofs.Feeding.{Rising, Apart, Stood, lines-stood, lines-blank, start-stood, during-few, read-out}
+use Rattle.reading.proofs.Feeding.{view-shows, begun-held, steps-all}
 
 lower : (a b : ℕ) → ltb (suc a) (suc b) ≡ false → ltb a b ≡ false
 lower a b e = le-ltb a b (omega (arith, ltb-false (suc a) (suc b) e))
@@ -148,3 +155,100 @@ module _ (x : Sheet) where
 
       pub whole : Whole x ls
       whole = record { walked = walked; ordered = ordered; covered = covered; blanks = blanks; room = room }
+
+    -- the parser's own rooms, at any moment, whether or not a brace is met
+    front : (i : ℕ) (ms : List Line) (a : ℕ) → Rising (x .text) a ms → Rising (x .text) a (take i ms)
+    unfolding Rising
+    front zero ms a r = tt
+    front (suc i) [] a r = tt
+    front (suc i) (l ∷ ms) a r = (r .0, r .1, r .2, front i ms (l .end) (r .3))
+
+    back : (i : ℕ) (ms : List Line) (a : ℕ) → Rising (x .text) a ms → Rising (x .text) (end-of (take i ms) a) (drop i ms)
+    unfolding Rising end-of
+    back zero ms a r = r
+    back (suc i) [] a r = tt
+    back (suc i) (l ∷ ms) a r = back i ms (l .end) (r .3)
+
+    halves : (i : ℕ) (ms : List Line) → total (take i ms) + total (drop i ms) ≡ total ms
+    unfolding total
+    halves zero ms = omega arith
+    halves (suc i) [] = refl
+    halves (suc i) (l ∷ ms) = omega (arith, halves i ms)
+
+    -- here no byte needs a span
+    abbrev Any : ℕ → Type 0
+    Any i = Unit {0}
+
+    free : (a : ℕ) (ms : List Line) → Rising (x .text) a ms → Apart Any (x .text) x a ms
+    unfolding Of
+    free a ms r = apart Any [] (λ i n. tt) a ms r (λ i l o. absurd o)
+
+    -- behind i lines
+    behind : (i : ℕ) → Stood Any (x .text) x (end-of (take i ls) 0) (0 + total (take i ls)) (lines x (views (x .text) (take i ls)) start)
+    behind i =
+        lines-stood Any (x .text) x (take i ls) 0 0 start (front i ls 0 up) (free 0 (take i ls) (front i ls 0 up)) (start-stood Any (x .text) x) (λ j o. tt)
+
+    within : (i j : ℕ) → (length (moment x ls i j .queue) ≤ total ls) × (length (moment x ls i j .openers) ≤ total ls)
+    within i j =
+        let r = back i ls 0 up in
+        let d = during-few Any (x .text) x j (drop i ls) (end-of (take i ls) 0) (0 + total (take i ls)) _ r (free _ (drop i ls) r) (behind i) (λ k. tt) in
+        (omega (arith, d .0, halves i ls), omega (arith, d .1, halves i ls))
+
+    -- without placeholders the queue never holds more than N records before the end, and N + 1 at it
+    pub queue-room : (i j : ℕ) → length (moment x ls i j .queue) ≤ total ls
+    queue-room i j = within i j .0
+
+    pub opener-room : (i j : ℕ) → length (moment x ls i j .openers) ≤ total ls
+    opener-room i j = within i j .1
+
+    ended-few : (b n : ℕ) (w : Inside) (s : State) → length (s .queue) ≤ n → (length (ended-at b w s .queue) ≤ n + 1) × (ended-at b w s .openers ≡ s .openers)
+    unfolding ended-at
+    ended-few b n inside.No s l = (omega arith, refl)
+    ended-few b n (inside.Verbatim w) s l = (omega (arith, length-append (s .queue) (exit-of (getD (s .queue) (w .event) nothing) b b ∷ [])), refl)
+
+    pub end-room : (length (read x ls .queue) ≤ total ls + 1) × (length (read x ls .openers) ≤ total ls)
+    end-room =
+        let k = lines-stood Any (x .text) x ls 0 0 start up (free 0 ls up) (start-stood Any (x .text) x) (λ j o. tt) in
+        let s = lines x (views (x .text) ls) start in
+        let e = ended-few (end-of ls 0) (total ls) (s .inside) s (omega (arith, k .few)) in
+        (e .0, rw (e .1) (omega (arith, k .opens)))
+
+  -- any count of steps that is large enough gives the same: at the line's end a step changes nothing
+  step-end : (v : View) (a : Turn) → Sound (v .bytes) (a .cursor) → (a .state .refused ≡ refused.No → length (v .bytes) ≤ a .cursor .pos) → step x v a ≡ a
+  unfolding unless-refused on-token
+  step-end v a so far = go (a .state .refused) refl
+    where
+      on : (t : Next) → nextOf (v .bytes) (a .cursor) .token ≡ t → length (v .bytes) ≤ a .cursor .pos → on-token x v a t (nextOf (v .bytes) (a .cursor) .cursor) ≡ a
+      on next.None e l = refl
+      on (next.Some t) e l =
+          absurd (omega (arith, l, next-stepped (v .bytes) (a .cursor) .within t e, next-sounded (v .bytes) (a .cursor) so .some t e))
+
+      go : (r : Refused) → a .state .refused ≡ r → unless-refused x v a r ≡ a
+      go (refused.At p) e = refl
+      go refused.No e = on (nextOf (v .bytes) (a .cursor) .token) refl (far e)
+
+  steps-still : (k : ℕ) (v : View) (a : Turn) → step x v a ≡ a → steps k x v a ≡ a
+  unfolding steps
+  steps-still zero v a e = refl
+  steps-still (suc k) v a e = ap (λ (b : Turn). steps k x v b) e ∙ steps-still k v a e
+
+  steps-more : (n k : ℕ) (v : View) (a : Turn) → steps (n + k) x v a ≡ steps k x v (steps n x v a)
+  unfolding steps
+  steps-more zero k v a = ap (λ (j : ℕ). steps j x v a) (zero-add k)
+  steps-more (suc n) k v a = ap (λ (j : ℕ). steps j x v a) (suc-add n k) ∙ steps-more n k v (step x v a)
+
+  pub enough : (ls : List Line) → Fed (x .text) ls → (i : ℕ) (l : Line) (ms : List Line) → drop i ls ≡ l ∷ ms → (k : ℕ)
+      → let v = viewOf (x .text) l in
+        let a = begun x v (lines x (views (x .text) (take i ls)) start) in
+        steps (length (v .bytes) + k) x v a ≡ steps (length (v .bytes)) x v a
+  unfolding Rising Apart
+  enough ls fed i l ms e k =
+      let v = viewOf (x .text) l in
+      let s = lines x (views (x .text) (take i ls)) start in
+      let r = subst (λ (m : List Line). Rising (x .text) (end-of (take i ls) 0) m) e (back ls fed i ls 0 (up ls fed)) in
+      let shows = view-shows (x .text) l (r .1) (r .2) in
+      let b = begun-held (Any ls fed) (x .text) x v (end-of (take i ls) 0) (0 + total (take i ls)) s (free ls fed (end-of (take i ls) 0) (l ∷ ms) r .0) (behind ls fed i) in
+      let h = steps-all (Any ls fed) (x .text) x v (0 + total (take i ls)) shows (length (v .bytes)) 0 (begun x v s) (omega arith) b (λ j o. tt) in
+      steps-more (length (v .bytes)) k v (begun x v s)
+      ∙ steps-still k v (steps (length (v .bytes)) x v (begun x v s))
+      (step-end v (steps (length (v .bytes)) x v (begun x v s)) (h .sound) (λ z. h .good z .far))
