@@ -14,13 +14,12 @@ use Rattle.reading.specs.Machine.{Sheet, State}
 use Rattle.reading.specs.Reading.{sheet, read}
 use Rattle.reading.specs.Draining.{drain}
 use Rattle.reading.specs.Questions.{Rooms, Outcome, Fed, total, first-outside, first-early, label-room, refuses, handed-out, judged, outcome}
+use Rattle.reading.proofs.Choose.{choose}
 use Rattle.reading.proofs.Theorems.{room}
 
--- one of two outcomes
-either : (b : Bool) (x y : Outcome) → (b ≡ true → x .answer .code ≡ 9 → ⊥) → (b ≡ false → y .answer .code ≡ 9 → ⊥)
-    → (elim b as (λ _. Outcome) [ true ↦ x | false ↦ y ]) .answer .code ≡ 9 → ⊥
-either true x y f g = f refl
-either false x y f g = g refl
+-- an outcome that is not 9
+abbrev Other : Outcome → Type 0
+Other o = o .answer .code ≡ 9 → ⊥
 
 module _ (text : List ℕ) (ls : List Line) (reading : ℕ) (rooms : Rooms) (lent : total ls + 1 ≤ length (rooms .events) / 7) where
   handed : (s : State) → length (drain (s .queue)) ≤ total ls + 1 → handed-out (drain (s .queue)) (s .labels) rooms .answer .code ≡ 9 → ⊥
@@ -38,14 +37,14 @@ module _ (text : List ℕ) (ls : List Line) (reading : ℕ) (rooms : Rooms) (len
   pub never-nine : outcome text ls reading rooms .answer .code ≡ 9 → ⊥
   unfolding outcome
   never-nine =
-      either (leb reading 1) _ _
-      (λ a. either (leb (length text) 1048576 && leb (length ls) 1048576) _ _
-      (λ b. either (ltb (first-outside text ls) (length ls)) _ _
+      choose Other (leb reading 1) _ _
+      (λ a. choose Other (leb (length text) 1048576 && leb (length ls) 1048576) _ _
+      (λ b. choose Other (ltb (first-outside text ls) (length ls)) _ _
       (λ c e. omega (arith, e))
-      (λ c. either (ltb (first-early 0 ls) (length ls)) _ _
+      (λ c. choose Other (ltb (first-early 0 ls) (length ls)) _ _
       (λ d e. omega (arith, e))
-      (λ d. either (leb (2 * total ls + 1) (length (rooms .queue) / 8)) _ _
-      (λ f. either (leb (total ls) (length (rooms .openers) / 4)) _ _
+      (λ d. choose Other (leb (2 * total ls + 1) (length (rooms .queue) / 8)) _ _
+      (λ f. choose Other (leb (total ls) (length (rooms .openers) / 4)) _ _
       (λ g. asked (record { inside = c; apart = d }) (read (sheet text reading (label-room (rooms .labels))) ls) refl _ refl _)
       (λ g e. omega (arith, e)))
       (λ f e. omega (arith, e)))))

@@ -34,6 +34,7 @@ use Rattle.reading.specs.Verbatim.{flagged, taken, opened-as, opens-with
 use Rattle.reading.specs.Verbatim.{formatted, closed-with, closes-verbatim, all-blank, bytes-of, skips, content, blank-content, in-verbatim}
 use Rattle.reading.specs.Verbatim.{span-of, drops-at}
 use Rattle.reading.specs.Walked.{walk-by, walk-of, Of}
+use Rattle.reading.proofs.Choose.{choose, choose₂}
 use Rattle.reading.proofs.Matching.{Wraps, wraps-match, Parts}
 use Rattle.reading.proofs.Spans.{Gap, Covers, gap-none, gap-same, covers-append, covers-after, covers-amend, covers-cut, covers-same, covers-shorter, covers-one}
 use Rattle.reading.proofs.Spans.{amend-last-at, length-amend, length-amend-last}
@@ -48,24 +49,19 @@ Shows text v = (j : ℕ) → j < length (v .bytes) → getD (v .bytes) j 0 ≡ g
 -- the dollars that a run takes lie in the Str before it
 taken-ends : (l : Last) (at : ℕ) (q : List Event) → LastOk l q → (taken l at ≡ 0) ⊎ Ends (taken l at) at q
 unfolding taken
-taken-ends l at q ok = go (eqb (l .end) at) refl
-  where
-    go : (b : Bool) → eqb (l .end) at ≡ b
-        → (_≡_ {A = ℕ} (elim b [ true ↦ l .dollars | false ↦ 0 ]) 0) ⊎ Ends (elim b as (λ _. ℕ) [ true ↦ l .dollars | false ↦ 0 ]) at q
-    go false e = inl refl
-    go true e = subst (λ (j : ℕ). (l .dollars ≡ 0) ⊎ Ends (l .dollars) j q) (eqb-true (l .end) at e) ok
+taken-ends l at q ok =
+    choose (λ (n : ℕ). (n ≡ 0) ⊎ Ends n at q) (eqb (l .end) at) _ _
+    (λ e. subst (λ (j : ℕ). (l .dollars ≡ 0) ⊎ Ends (l .dollars) j q) (eqb-true (l .end) at e) ok)
+    (λ e. inl refl)
 
 -- the enter of a run, and its exit
 opened-wraps : (n : ℕ) (h : Home) → Wraps (walk-by (enter (opened-as n)) h) (walk-by (enter (opened-as n) + 32) h)
 unfolding opened-as walk-by
-opened-wraps n h = go (eqb n 0) (eqb n 1)
+opened-wraps n h =
+    choose Both (eqb n 0) _ _ (λ e. wraps-match _) (λ e. choose Both (eqb n 1) _ _ (λ f. wraps-match _) (λ f. wraps-match _))
   where
-    go : (a b : Bool)
-        → Wraps (walk-by (enter (elim a as (λ _. ℕ) [ true ↦ verbatim | false ↦ elim b as (λ _. ℕ) [ true ↦ inline-math | false ↦ display-math ] ])) h)
-        (walk-by (enter (elim a as (λ _. ℕ) [ true ↦ verbatim | false ↦ elim b as (λ _. ℕ) [ true ↦ inline-math | false ↦ display-math ] ]) + 32) h)
-    go true b = wraps-match _
-    go false true = wraps-match _
-    go false false = wraps-match _
+    Both : ℕ → Type 0
+    Both k = Wraps (walk-by (enter k) h) (walk-by (enter k + 32) h)
 
 drop-end : (n : ℕ) (q : List Event) → length q ≤ n → (text : List ℕ) → Blank text (drop n q)
 unfolding Of
@@ -151,19 +147,11 @@ raw-wraps h = wraps-match _
 
 cut-amend : (w : Verbatim) (f : Event → Event) (q : List Event) → w .event < w .keep → cut w (amend f (w .event) q) ≡ cut w q
 unfolding cut
-cut-amend w f q l = go (w .run)
-  where
-    go : (r : Bool) → _≡_ {A = List Event} (elim r [ true ↦ drop (w .keep) (amend f (w .event) q) | false ↦ [] ]) (elim r [ true ↦ drop (w .keep) q | false ↦ [] ])
-    go true = drop-amend f (w .event) (w .keep) q l
-    go false = refl
+cut-amend w f q l = choose₂ (λ (a b : List Event). a ≡ b) (w .run) _ _ _ _ (λ e. drop-amend f (w .event) (w .keep) q l) (λ e. refl)
 
 kept-few : (w : Verbatim) (q : List Event) → length (kept w q) ≤ length q
 unfolding kept
-kept-few w q = go (w .run)
-  where
-    go : (b : Bool) → length {A = Event} (elim b [ true ↦ take (w .keep) q | false ↦ q ]) ≤ length q
-    go true = take-few (w .keep) q
-    go false = omega arith
+kept-few w q = choose (λ (l : List Event). length l ≤ length q) (w .run) _ _ (λ e. take-few (w .keep) q) (λ e. omega arith)
 
 -- an accepted raw format ends before the line does
 format-within : (v : View) (j n : ℕ) (t : Next) → format-ahead v j t ≡ ahead.Some n → j + 2 + n + 1 ≤ length (v .bytes)
@@ -172,12 +160,10 @@ format-within v j n next.None e = absurd (apart n e)
   where
     apart : (n : ℕ) → ahead.None ≡ ahead.Some n → ⊥
     apart n e = let z : _≡_ {A = ℕ} 0 1 = cc in omega arith
-format-within v j n (next.Some t) e = go (is-format (role-of (t .kind))) e
-  where
-    go : (b : Bool) → _≡_ {A = Ahead} (elim b [ true ↦ rawFormatOf (drop (j + 2) (v .bytes)) | false ↦ ahead.None ]) (ahead.Some n)
-        → j + 2 + n + 1 ≤ length (v .bytes)
-    go true e = omega (arith, raw-format-some (drop (j + 2) (v .bytes)) n e .0 .within, length-drop (j + 2) (v .bytes))
-    go false e = let z : _≡_ {A = ℕ} 0 1 = cc in absurd (omega arith)
+format-within v j n (next.Some t) e =
+    choose (λ (f : Ahead). f ≡ ahead.Some n → j + 2 + n + 1 ≤ length (v .bytes)) (is-format (role-of (t .kind))) _ _
+    (λ y e. omega (arith, raw-format-some (drop (j + 2) (v .bytes)) n e .0 .within, length-drop (j + 2) (v .bytes)))
+    (λ y e. let z : _≡_ {A = ℕ} 0 1 = cc in absurd (omega arith)) e
 
 module _ (Loose : ℕ → Type 0) (text : List ℕ) (w : Verbatim) where
   -- what a verbatim's exit leaves, where the queue is q: behind what is kept of it, from a to b
@@ -185,25 +171,17 @@ module _ (Loose : ℕ → Type 0) (text : List ℕ) (w : Verbatim) where
       (low : w .event < w .keep) (high : w .keep ≤ length q) (up : a ≤ b) where
     kept-covers : ((j : ℕ) → Of (map span-of (cut w q)) j → Loose j) → Covers Loose 0 (kept w q) a
     unfolding kept cut
-    kept-covers told = go (w .run) told
-      where
-        go : (r : Bool) → ((j : ℕ) → Of (map span-of (elim r as (λ _. List Event) [ true ↦ drop (w .keep) q | false ↦ [] ])) j → Loose j)
-            → Covers Loose 0 (elim r [ true ↦ take (w .keep) q | false ↦ q ]) a
-        go true f = covers-cut Loose (w .keep) 0 q a c f
-        go false f = c
+    kept-covers told =
+        choose₂ (λ (d l : List Event). ((j : ℕ) → Of (map span-of d) j → Loose j) → Covers Loose 0 l a) (w .run) _ _ _ _
+        (λ e f. covers-cut Loose (w .keep) 0 q a c f) (λ e f. c) told
 
     kept-parts : Parts (walks (kept w q ++ (exit-of (getD q (w .event) nothing) a b ∷ []))) os
     unfolding kept
-    kept-parts = go (w .run)
-      where
-        whole : Parts (walks (q ++ (exit-of (getD q (w .event) nothing) a b ∷ []))) os
-        whole =
-            subst (λ (l : List Event). Parts (walks (l ++ (exit-of (getD q (w .event) nothing) a b ∷ []))) os) (take-all (length q) q (omega arith))
-            (inner-exit w q os (length q) nothing a b (omega (arith, low, high)) i)
-
-        go : (r : Bool) → Parts (walks ((elim r as (λ _. List Event) [ true ↦ take (w .keep) q | false ↦ q ]) ++ (exit-of (getD q (w .event) nothing) a b ∷ []))) os
-        go true = inner-exit w q os (w .keep) nothing a b low i
-        go false = whole
+    kept-parts =
+        choose (λ (l : List Event). Parts (walks (l ++ (exit-of (getD q (w .event) nothing) a b ∷ []))) os) (w .run) _ _
+        (λ e. inner-exit w q os (w .keep) nothing a b low i)
+        (λ e. subst (λ (l : List Event). Parts (walks (l ++ (exit-of (getD q (w .event) nothing) a b ∷ []))) os) (take-all (length q) q (omega arith))
+        (inner-exit w q os (length q) nothing a b (omega (arith, low, high)) i))
 
     pub exits-out : ((j : ℕ) → Of (map span-of (cut w q)) j → Loose j) → length os ≤ m → suc n ≤ m
         → (t : State) → t .queue ≡ kept w q ++ (exit-of (getD q (w .event) nothing) a b ∷ []) → t .openers ≡ os → t .last .dollars ≡ 0
@@ -298,24 +276,14 @@ module _ (Loose : ℕ → Type 0) (text : List ℕ) (w : Verbatim) where
         → (skips w (peekOf (v .bytes) (h .cursor) .token) ≡ true → (i : ℕ) → v .base + h .from ≤ i → i < v .base + h .to → Loose i)
         → Fine Loose text v m (suc (h .from)) (blank-content v h w s)
     unfolding blank-content
-    blank-fine bl told = go (w .seen)
-      where
-        peeked : (b : Bool) → skips w (peekOf (v .bytes) (h .cursor) .token) ≡ b
-            → Good Loose text (v .base + h .to) (m + h .to) (elim b [ true ↦ s | false ↦ put v str (h .from) (h .to) s ])
-        peeked true y = skip-good (told y)
-        peeked false y = blank-put bl
-
-        go : (b : Bool) → Fine Loose text v m (suc (h .from)) (elim b [
-          | true ↦ record { cursor = h .cursor; state = put v str (h .from) (h .to) s }
-          | false ↦ record {
-            cursor = peekOf (v .bytes) (h .cursor) .cursor;
-            state = elim (skips w (peekOf (v .bytes) (h .cursor) .token)) [ true ↦ s | false ↦ put v str (h .from) (h .to) s ];
-          }
-        ])
-        go true = fine-at Loose text v m (suc (h .from)) (h .to) (omega (arith, k .long)) (h .cursor) _ (k .sound) (k .place) (blank-put bl)
-        go false =
-            fine-at Loose text v m (suc (h .from)) (h .to) (omega (arith, k .long)) _ _ (peek-sound (v .bytes) (h .cursor) (k .sound)) (peek-place (v .bytes) (h .cursor) (h .to) (k .place))
-            (peeked (skips w (peekOf (v .bytes) (h .cursor) .token)) refl)
+    blank-fine bl told =
+        choose (Fine Loose text v m (suc (h .from))) (w .seen) _ _
+        (λ e. fine-at Loose text v m (suc (h .from)) (h .to) (omega (arith, k .long)) (h .cursor) _ (k .sound) (k .place) (blank-put bl))
+        (λ e.
+        fine-at Loose text v m (suc (h .from)) (h .to) (omega (arith, k .long)) _ _ (peek-sound (v .bytes) (h .cursor) (k .sound))
+        (peek-place (v .bytes) (h .cursor) (h .to) (k .place))
+        (choose (Good Loose text (v .base + h .to) (m + h .to)) (skips w (peekOf (v .bytes) (h .cursor) .token)) _ _
+        (λ y. skip-good (told y)) (λ y. blank-put bl)))
 
     closed-fine : ((j : ℕ) → Of (map span-of (cut w (s .queue))) j → Loose j) → (c : Cursor) → Sound (v .bytes) c → c .pos ≡ h .to
         → (f : Ahead) → ((n : ℕ) → f ≡ ahead.Some n → h .to + 2 + n + 1 ≤ length (v .bytes))
@@ -352,60 +320,32 @@ module _ (Loose : ℕ → Type 0) (text : List ℕ) (w : Verbatim) where
 
     pub in-fine : (r : Rules) (t : Token) → ((i : ℕ) → Of (drops-at v h t w s) i → Loose i) → Fine Loose text v m (suc (h .from)) (in-verbatim r v h t w s)
     unfolding in-verbatim drops-at Of
-    in-fine r t told = go (closes w h t) told
+    in-fine r t told =
+        choose₂ Goes (closes w h t) _ _ _ _ (λ e f. closes-fine r f)
+        (λ e f. choose (Fine Loose text v m (suc (h .from))) (all-blank (bytes-of v h)) _ _
+        (λ y. blank-fine y (λ z i l u. f i (subst (Of-one i) (sym (ap (λ (b : Bool). b && skips w (peekOf (v .bytes) (h .cursor) .token)) y ∙ z)) (inl (l, u)))))
+        (λ y. content-fine t))
+        told
       where
-        blanks : (b : Bool) → all-blank (bytes-of v h) ≡ b
-            → ((i : ℕ) → Of (elim (b && skips w (peekOf (v .bytes) (h .cursor) .token)) as (λ _. List Line) [
-              | true ↦ record { start = v .base + h .from; end = v .base + h .to } ∷ []
-              | false ↦ []
-            ]) i → Loose i)
-            → Fine Loose text v m (suc (h .from)) (elim b [ true ↦ blank-content v h w s | false ↦ record { cursor = h .cursor; state = content v h t w s } ])
-        blanks false e f = content-fine t
-        blanks true e f = blank-fine e (λ y i l u. f i (subst (λ (c : Bool). Of (elim c as (λ _. List Line) [ true ↦ record { start = v .base + h .from; end = v .base + h .to } ∷ [] | false ↦ [] ]) i) (sym y) (inl (l, u))))
+        Goes : List Line → Turn → Type 0
+        Goes d a = ((i : ℕ) → Of d i → Loose i) → Fine Loose text v m (suc (h .from)) a
 
-        go : (b : Bool)
-            → ((i : ℕ) → Of (elim b as (λ _. List Line) [
-              | true ↦ map span-of (cut w (s .queue))
-              | false ↦ elim (all-blank (bytes-of v h) && skips w (peekOf (v .bytes) (h .cursor) .token)) [
-                | true ↦ record { start = v .base + h .from; end = v .base + h .to } ∷ []
-                | false ↦ []
-              ]
-            ]) i → Loose i)
-            → Fine Loose text v m (suc (h .from)) (elim b [
-              | true ↦ closes-verbatim r v h w s
-              | false ↦ elim (all-blank (bytes-of v h)) [ true ↦ blank-content v h w s | false ↦ record { cursor = h .cursor; state = content v h t w s } ]
-            ])
-        go true f = closes-fine r f
-        go false f = blanks (all-blank (bytes-of v h)) refl f
+        Of-one : ℕ → Bool → Type 0
+        Of-one i b = Of (elim b [ true ↦ record { start = v .base + h .from; end = v .base + h .to } ∷ [] | false ↦ [] ]) i
 
     -- what is dropped is blank
     pub drops-blank : (t : Token) (i : ℕ) → Of (drops-at v h t w s) i → blank (getD text i 0) ≡ true
     unfolding drops-at Of cut
-    drops-blank t i o = go (closes w h t) o
+    drops-blank t i o =
+        choose Told (closes w h t) _ _
+        (λ e. choose (λ (q : List Event). Told (map span-of q)) (w .run) _ _ (λ r o. g .blanks i o) (λ r o. absurd o))
+        (λ e. choose Told (all-blank (bytes-of v h) && skips w (peekOf (v .bytes) (h .cursor) .token)) _ _
+        (λ y o. one (and-eq-true-iff (all-blank (bytes-of v h)) (skips w (peekOf (v .bytes) (h .cursor) .token)) .0 y .0) o) (λ y o. absurd o))
+        o
       where
-        cuts : (b : Bool) → Of (map span-of (elim b as (λ _. List Event) [ true ↦ drop (w .keep) (s .queue) | false ↦ [] ])) i → blank (getD text i 0) ≡ true
-        cuts true o = g .blanks i o
-        cuts false o = absurd o
+        Told : List Line → Type 0
+        Told d = Of d i → blank (getD text i 0) ≡ true
 
-        one : Of (record { start = v .base + h .from; end = v .base + h .to } ∷ []) i → all-blank (bytes-of v h) ≡ true → blank (getD text i 0) ≡ true
-        one (inl y) e = token-blank e i (y .0) (y .1)
-        one (inr y) e = absurd y
-
-        blanks : (b c : Bool) → all-blank (bytes-of v h) ≡ b
-            → Of (elim (b && c) as (λ _. List Line) [ true ↦ record { start = v .base + h .from; end = v .base + h .to } ∷ [] | false ↦ [] ]) i
-            → blank (getD text i 0) ≡ true
-        blanks true true e o = one o e
-        blanks true false e o = absurd o
-        blanks false c e o = absurd o
-
-        go : (b : Bool)
-            → Of (elim b as (λ _. List Line) [
-              | true ↦ map span-of (cut w (s .queue))
-              | false ↦ elim (all-blank (bytes-of v h) && skips w (peekOf (v .bytes) (h .cursor) .token)) [
-                | true ↦ record { start = v .base + h .from; end = v .base + h .to } ∷ []
-                | false ↦ []
-              ]
-            ]) i
-            → blank (getD text i 0) ≡ true
-        go true o = cuts (w .run) o
-        go false o = blanks (all-blank (bytes-of v h)) (skips w (peekOf (v .bytes) (h .cursor) .token)) refl o
+        one : all-blank (bytes-of v h) ≡ true → Told (record { start = v .base + h .from; end = v .base + h .to } ∷ [])
+        one e (inl y) = token-blank e i (y .0) (y .1)
+        one e (inr y) = absurd y

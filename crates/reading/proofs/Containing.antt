@@ -30,6 +30,7 @@ use Rattle.reading.specs.Labels.{Shelved}
 use Rattle.reading.specs.Containers.{Taken, taken, left, seek, may-close, closes-pair, takes, span-with, closes-span, labelled, closes-link}
 use Rattle.reading.specs.Containers.{close-as, may-open, open-as, opens-or, tried, container}
 use Rattle.reading.specs.Walked.{Walk, neither, walk-by, walk-of}
+use Rattle.reading.proofs.Choose.{choose}
 use Rattle.reading.proofs.Matching.{Wraps, Top, LinkTop, TopBy, Parts, parts-drop}
 use Rattle.reading.proofs.Spans.{Covers, covers-append, covers-amend, covers-to, covers-one, length-amend}
 use Rattle.reading.proofs.Queue.{walks, walks-append, walks-take, walks-amend, parts-seek, seek-few, top-close, link-close, parts-close}
@@ -74,20 +75,12 @@ module _ (Loose : ℕ → Type 0) (text : List ℕ) where
     opens-then : (alone : ℕ) (o : Opens) → alone < 32 → OpensOk o → Then (opens-or v h alone o s)
     unfolding opens-or OpensOk
     opens-then alone opens.None l ok = put-then alone l
-    opens-then alone (opens.Some o) l ok = go (may-open v h s o)
-      where
-        go : (b : Bool) → Then (elim b [ true ↦ open-as v h o s | false ↦ put v alone (h .from) (h .to) s ])
-        go true = open-then o ok
-        go false = put-then alone l
+    opens-then alone (opens.Some o) l ok = choose Then (may-open v h s o) _ _ (λ e. open-then o ok) (λ e. put-then alone l)
 
     opens-inside : (alone : ℕ) (o : Opens) → opens-or v h alone o s .inside ≡ inside.No
     unfolding opens-or
     opens-inside alone opens.None = no
-    opens-inside alone (opens.Some o) = go (may-open v h s o)
-      where
-        go : (b : Bool) → (elim b as (λ _. State) [ true ↦ open-as v h o s | false ↦ put v alone (h .from) (h .to) s ]) .inside ≡ inside.No
-        go true = no
-        go false = no
+    opens-inside alone (opens.Some o) = choose (λ (t : State). t .inside ≡ inside.No) (may-open v h s o) _ _ (λ e. no) (λ e. no)
 
     -- closing, with the found opener o and the older ones os
     module _ (o : Opener) (os : List Opener) (p : Parts (walks (s .queue)) (o ∷ os)) (few : suc (length os) ≤ length (s .openers)) where
@@ -103,9 +96,13 @@ module _ (Loose : ℕ → Type 0) (text : List ℕ) where
                 rw (walks-append (amend (becomes first nowhere) (o .event) (s .queue)) (e ∷ []), walks-amend (becomes first nowhere) (walk-by first nowhere) (λ x. refl) (o .event) (s .queue))
                 (top-close (walks (s .queue)) os (o .event) (walk-by first nowhere) (walk-by second nowhere) t w);
             few =
-                omega
-                (arith, length-append (amend (becomes first nowhere) (o .event) (s .queue)) (e ∷ []),
-                length-amend (becomes first nowhere) (o .event) (s .queue), g .few, k .long);
+                omega (
+                  arith,
+                  length-append (amend (becomes first nowhere) (o .event) (s .queue)) (e ∷ []),
+                  length-amend (becomes first nowhere) (o .event) (s .queue),
+                  g .few,
+                  k .long,
+                );
             opens = omega (arith, few, g .opens, k .long);
             last = inl refl;
           }
@@ -243,12 +240,10 @@ module _ (Loose : ℕ → Type 0) (text : List ℕ) where
         → Fine Loose text v m (suc (h .from)) (tried x v h mk os s)
     unfolding tried
     tried-fine x mk ok [] p l = alone-fine mk ok
-    tried-fine x mk ok (o ∷ os) p l = go (may-close v h s o)
-      where
-        go : (b : Bool) → Fine Loose text v m (suc (h .from)) (elim b [ true ↦ close-as x v h o (closing-of (o .sort)) (with-openers os s)
-          | false ↦ record { cursor = h .cursor; state = opens-or v h (mk .alone) (mk .opens) s } ])
-        go true = close-fine o os p l x (closing-of (o .sort)) refl (closing-ok (o .sort))
-        go false = alone-fine mk ok
+    tried-fine x mk ok (o ∷ os) p l =
+        choose (Fine Loose text v m (suc (h .from))) (may-close v h s o) _ _
+        (λ e. close-fine o os p l x (closing-of (o .sort)) refl (closing-ok (o .sort)))
+        (λ e. alone-fine mk ok)
 
     pub container-fine : (x : Sheet) (mk : Marks) → MarksOk mk → Fine Loose text v m (suc (h .from)) (container x v h mk s)
     container-fine x mk ok =

@@ -15,17 +15,14 @@ use Rattle.reading.specs.declared.Event.{Event}
 use Rattle.reading.specs.Events.{Home, event, homeOf, nowhere, str}
 use Rattle.reading.specs.Draining.{flushed, drained}
 use Rattle.reading.specs.Walked.{Tag, Walk, opening, closing, neither, walk-by, walk-of, Matches, Ordered, under}
+use Rattle.reading.proofs.Choose.{choose}
 use Rattle.reading.proofs.Spans.{Gap, Covers, gap-none, gap-join, covers-before, covers-up}
 use Rattle.reading.proofs.Queue.{walks}
 
 -- fewer, or as many
 flushed-few : (a b : ℕ) (es : List Event) → length (flushed a b es) ≤ suc (length es)
 unfolding flushed
-flushed-few a b es = go (eqb a b)
-  where
-    go : (x : Bool) → length {A = Event} (elim x [ true ↦ es | false ↦ event str a b ∷ es ]) ≤ suc (length es)
-    go true = omega arith
-    go false = omega arith
+flushed-few a b es = choose (λ (l : List Event). length l ≤ suc (length es)) (eqb a b) _ _ (λ e. omega arith) (λ e. omega arith)
 
 flushed-none : (a : ℕ) (es : List Event) → flushed a a es ≡ es
 unfolding flushed
@@ -35,22 +32,16 @@ drained-few : (a b : ℕ) (es : List Event) → (length (drained a b es) ≤ suc
 unfolding drained
 drained-few a b [] = (flushed-few a b [], rw (flushed-none b []) (omega arith))
 drained-few a b (e ∷ es) =
-    go (eqb (e .kind) str) (eqb b (e .start .0)) (drained-few a (e .end .0) es .0) (drained-few b (e .end .0) es .0) (drained-few (e .start .0) (e .end .0) es)
-  where
-    D : ℕ → Bool → Bool → List Event
-    D a x y =
-        elim x [
-          | true ↦ elim y [ true ↦ drained a (e .end .0) es | false ↦ flushed a b (drained (e .start .0) (e .end .0) es) ]
-          | false ↦ flushed a b (e ∷ drained (e .end .0) (e .end .0) es)
-        ]
-
-    go : (x y : Bool) → length (drained a (e .end .0) es) ≤ suc (length es) → length (drained b (e .end .0) es) ≤ suc (length es)
-        → (length (drained (e .start .0) (e .end .0) es) ≤ suc (length es)) × (length (drained (e .end .0) (e .end .0) es) ≤ length es)
-        → (length (D a x y) ≤ suc (suc (length es))) × (length (D b x y) ≤ suc (length es))
-    go true true l k r = (omega arith, k)
-    go true false l k r = (omega (arith, flushed-few a b (drained (e .start .0) (e .end .0) es), r .0), rw (flushed-none b (drained (e .start .0) (e .end .0) es)) (r .0))
-    go false y l k r =
-        (omega (arith, flushed-few a b (e ∷ drained (e .end .0) (e .end .0) es), r .1), rw (flushed-none b (e ∷ drained (e .end .0) (e .end .0) es)) (omega (arith, r .1)))
+    (choose (λ (l : List Event). length l ≤ suc (suc (length es))) (eqb (e .kind) str) _ _
+    (λ x. choose (λ (l : List Event). length l ≤ suc (suc (length es))) (eqb b (e .start .0)) _ _
+    (λ y. omega (arith, drained-few a (e .end .0) es .0))
+    (λ y. omega (arith, flushed-few a b (drained (e .start .0) (e .end .0) es), drained-few (e .start .0) (e .end .0) es .0)))
+    (λ x. omega (arith, flushed-few a b (e ∷ drained (e .end .0) (e .end .0) es), drained-few 0 (e .end .0) es .1)),
+    choose (λ (l : List Event). length l ≤ suc (length es)) (eqb (e .kind) str) _ _
+    (λ x. choose (λ (l : List Event). length l ≤ suc (length es)) (eqb b (e .start .0)) _ _
+    (λ y. drained-few b (e .end .0) es .0)
+    (λ y. rw (flushed-none b (drained (e .start .0) (e .end .0) es)) (drained-few (e .start .0) (e .end .0) es .0)))
+    (λ x. rw (flushed-none b (e ∷ drained (e .end .0) (e .end .0) es)) (omega (arith, drained-few 0 (e .end .0) es .1))))
 
 -- the same matches
 kept-walk : (w : Walk) (a b : List Walk) (ts : List Tag) → ((us : List Tag) → Matches a us → Matches b us) → Matches (w ∷ a) ts → Matches (w ∷ b) ts
@@ -62,11 +53,7 @@ kept-walk (closing t) a b (u ∷ ts) f m = (m .0, f ts (m .1))
 
 flushed-walk : (a b : ℕ) (es : List Event) (ts : List Tag) → Matches (walks es) ts → Matches (walks (flushed a b es)) ts
 unfolding flushed walk-by Matches
-flushed-walk a b es ts m = go (eqb a b)
-  where
-    go : (x : Bool) → Matches (walks (elim x [ true ↦ es | false ↦ event str a b ∷ es ])) ts
-    go true = m
-    go false = m
+flushed-walk a b es ts m = choose (λ (l : List Event). Matches (walks l) ts) (eqb a b) _ _ (λ e. m) (λ e. m)
 
 str-walk : (e : Event) (w : List Walk) (ts : List Tag) → eqb (e .kind) str ≡ true → Matches (walk-of e ∷ w) ts → Matches w ts
 unfolding walk-by Matches
@@ -76,18 +63,13 @@ pub drained-walk : (a b : ℕ) (es : List Event) (ts : List Tag) → Matches (wa
 unfolding drained
 drained-walk a b [] ts m = flushed-walk a b [] ts m
 drained-walk a b (e ∷ es) ts m =
-    go (eqb (e .kind) str) refl (eqb b (e .start .0)) (λ a b us n. drained-walk a b es us n)
-  where
-    go : (x : Bool) → eqb (e .kind) str ≡ x → (y : Bool)
-        → ((a b : ℕ) (us : List Tag) → Matches (walks es) us → Matches (walks (drained a b es)) us)
-        → Matches (walks (elim x [
-          | true ↦ elim y [ true ↦ drained a (e .end .0) es | false ↦ flushed a b (drained (e .start .0) (e .end .0) es) ]
-          | false ↦ flushed a b (e ∷ drained (e .end .0) (e .end .0) es)
-        ])) ts
-    go true h true f = f a (e .end .0) ts (str-walk e (walks es) ts h m)
-    go true h false f = flushed-walk a b _ ts (f (e .start .0) (e .end .0) ts (str-walk e (walks es) ts h m))
-    go false h y f =
-        flushed-walk a b _ ts (kept-walk (walk-of e) (walks es) (walks (drained (e .end .0) (e .end .0) es)) ts (f (e .end .0) (e .end .0)) m)
+    choose (λ (l : List Event). Matches (walks l) ts) (eqb (e .kind) str) _ _
+    (λ x. choose (λ (l : List Event). Matches (walks l) ts) (eqb b (e .start .0)) _ _
+    (λ y. drained-walk a (e .end .0) es ts (str-walk e (walks es) ts x m))
+    (λ y. flushed-walk a b _ ts (drained-walk (e .start .0) (e .end .0) es ts (str-walk e (walks es) ts x m))))
+    (λ x.
+    flushed-walk a b _ ts
+    (kept-walk (walk-of e) (walks es) (walks (drained (e .end .0) (e .end .0) es)) ts (λ us n. drained-walk (e .end .0) (e .end .0) es us n) m))
 
 pub drain-few : (q : List Event) → length (drained 0 0 q) ≤ length q
 drain-few q = drained-few 0 0 q .1
@@ -95,28 +77,22 @@ drain-few q = drained-few 0 0 q .1
 module _ (Loose : ℕ → Type 0) where
   flushed-covers : (p a b : ℕ) (es : List Event) (c : ℕ) → Gap Loose p a → a ≤ b → Covers Loose b es c → Covers Loose p (flushed a b es) c
   unfolding flushed Covers
-  flushed-covers p a b es c g l h = go (eqb a b) refl
-    where
-      go : (x : Bool) → eqb a b ≡ x → Covers Loose p (elim x [ true ↦ es | false ↦ event str a b ∷ es ]) c
-      go true e = covers-before Loose p b es c (subst (λ (n : ℕ). Gap Loose p n) (eqb-true a b e) g) h
-      go false e = (g, l, h)
+  flushed-covers p a b es c g l h =
+      choose (λ (f : List Event). Covers Loose p f c) (eqb a b) _ _
+      (λ e. covers-before Loose p b es c (subst (λ (n : ℕ). Gap Loose p n) (eqb-true a b e) g) h)
+      (λ e. (g, l, h))
 
   pub drained-covers : (p a b : ℕ) (es : List Event) (c : ℕ) → Gap Loose p a → a ≤ b → Covers Loose b es c → Covers Loose p (drained a b es) c
   unfolding drained Covers
   drained-covers p a b [] c g l h = flushed-covers p a b [] c g l h
   drained-covers p a b (e ∷ es) c g l h =
-      go (eqb (e .kind) str) (eqb b (e .start .0)) refl (λ p a b g l h. drained-covers p a b es c g l h)
-    where
-      go : (x y : Bool) → eqb b (e .start .0) ≡ y
-          → ((p a b : ℕ) → Gap Loose p a → a ≤ b → Covers Loose b es c → Covers Loose p (drained a b es) c)
-          → Covers Loose p (elim x [
-            | true ↦ elim y [ true ↦ drained a (e .end .0) es | false ↦ flushed a b (drained (e .start .0) (e .end .0) es) ]
-            | false ↦ flushed a b (e ∷ drained (e .end .0) (e .end .0) es)
-          ]) c
-      go true true z f = f p a (e .end .0) g (omega (arith, h .0 .up, h .1, l)) (h .2)
-      go true false z f = flushed-covers p a b _ c g l (f b (e .start .0) (e .end .0) (h .0) (h .1) (h .2))
-      go false y z f =
-          flushed-covers p a b _ c g l (h .0, h .1, f (e .end .0) (e .end .0) (e .end .0) (gap-none Loose (e .end .0)) (omega arith) (h .2))
+      choose (λ (f : List Event). Covers Loose p f c) (eqb (e .kind) str) _ _
+      (λ x. choose (λ (f : List Event). Covers Loose p f c) (eqb b (e .start .0)) _ _
+      (λ y. drained-covers p a (e .end .0) es c g (omega (arith, h .0 .up, h .1, l)) (h .2))
+      (λ y. flushed-covers p a b _ c g l (drained-covers b (e .start .0) (e .end .0) es c (h .0) (h .1) (h .2))))
+      (λ x.
+      flushed-covers p a b _ c g l
+      (h .0, h .1, drained-covers (e .end .0) (e .end .0) (e .end .0) es c (gap-none Loose (e .end .0)) (omega arith) (h .2)))
 
   -- a cover is in order
   pub covers-ordered : (a : ℕ) (es : List Event) (b : ℕ) → Covers Loose a es b → Ordered a es

@@ -3,7 +3,7 @@
 use Prim.Native.Nat.{ℕ, zero, suc, _+_, _-_, _*_, _≤_, _<_}
 use mathlib.Core.Path.{_≡_, refl, sym, ap, _∙_, subst}
 use mathlib.Core.List.{List, [], _∷_, _++_, map, append-assoc}
-use mathlib.Core.Bool.{Bool, true, false, not, _&&_}
+use mathlib.Core.Bool.{Bool, true, false, not, _&&_, and-eq-true-iff}
 use mathlib.Core.Logic.{_⊎_, inl, inr, ⊎-elim}
 use native.Mathlib.Omega.{arith}
 use borrow.Author.Tests.{eqb-true, ltb-true, lt-ltb}
@@ -23,6 +23,7 @@ use Rattle.reading.specs.Machine.{View, State, prev, dollar, dollarsOf, 
 use Rattle.reading.specs.Tokens.{unclosed, closing-of}
 use Rattle.reading.specs.Verbatim.{span-of}
 use Rattle.reading.specs.Walked.{Walk, neither, walk-by, walk-of, Of}
+use Rattle.reading.proofs.Choose.{choose}
 use Rattle.reading.proofs.Matching.{Still, still-nil, still-neither, Parts, parts-append}
 use Rattle.reading.proofs.Spans.{Gap, Covers, gap-none, covers-append, covers-one}
 use Rattle.reading.proofs.Queue.{walks, walks-append, Single, parts-open, Inner}
@@ -30,20 +31,12 @@ use Rattle.reading.proofs.Queue.{walks, walks-append, Single, parts-ope
 -- the dollars of a Str lie within it
 pub dollars-within : (v : View) (i j : ℕ) → i ≤ j → i + dollarsOf v i j ≤ j
 unfolding dollarsOf
-dollars-within v i j h = go (ltb i j) refl
-  where
-    two : (b c : Bool) → ltb (suc i) j ≡ b → i < j → i + (elim (b && c) as (λ _. ℕ) [ true ↦ 2 | false ↦ 1 ]) ≤ j
-    two true true e l = omega (arith, ltb-true (suc i) j e)
-    two true false e l = omega arith
-    two false c e l = omega arith
-
-    one : (c : Bool) (n : ℕ) → i + n ≤ j → i + (elim c as (λ _. ℕ) [ true ↦ n | false ↦ 0 ]) ≤ j
-    one true n l = l
-    one false n l = omega arith
-
-    go : (b : Bool) → ltb i j ≡ b → i + dollarsOf v i j ≤ j
-    go true e = rw (e, dollarsOf) (one (dollar v j) (elim (ltb (suc i) j && dollar v (j - 1)) [ true ↦ 2 | false ↦ 1 ]) (two (ltb (suc i) j) (dollar v (j - 1)) refl (ltb-true i j e)))
-    go false e = rw (e, dollarsOf) (omega arith)
+dollars-within v i j h =
+    choose (λ (n : ℕ). i + n ≤ j) (ltb i j && dollar v j) _ _
+    (λ e. choose (λ (n : ℕ). i + n ≤ j) (ltb (suc i) j && dollar v (j - 1)) _ _
+    (λ f. omega (arith, ltb-true (suc i) j (and-eq-true-iff (ltb (suc i) j) (dollar v (j - 1)) .0 f .0)))
+    (λ f. omega (arith, ltb-true i j (and-eq-true-iff (ltb i j) (dollar v j) .0 e .0))))
+    (λ e. omega arith)
 
 -- the last event ends at a place, and n bytes of it may be taken
 pub record Ends (n at : ℕ) (q : List Event) : Type 0 where
@@ -58,13 +51,10 @@ LastOk l q = (l .dollars ≡ 0) ⊎ Ends (l .dollars) (l .end) q
 
 pub last-put : (v : View) (kind i j : ℕ) (q : List Event) → i ≤ j → LastOk (lastOf v kind i j) (q ++ event kind (v .base + i) (v .base + j) ∷ [])
 unfolding lastOf
-last-put v kind i j q h = go (eqb kind str)
-  where
-    go : (b : Bool)
-        → LastOk (elim b as (λ _. Last) [ true ↦ record { str = true; end = v .base + j; dollars = dollarsOf v i j } | false ↦ no-str ])
-        (q ++ event kind (v .base + i) (v .base + j) ∷ [])
-    go true = inr record { front = q; it = event kind (v .base + i) (v .base + j); parted = refl; wide = omega (arith, dollars-within v i j h); ends = refl }
-    go false = inl refl
+last-put v kind i j q h =
+    choose (λ (l : Last). LastOk l (q ++ event kind (v .base + i) (v .base + j) ∷ [])) (eqb kind str) _ _
+    (λ e. inr record { front = q; it = event kind (v .base + i) (v .base + j); parted = refl; wide = omega (arith, dollars-within v i j h); ends = refl })
+    (λ e. inl refl)
 
 -- every byte under some events is blank
 abbrev pub Blank : List ℕ → List Event → Type 0

@@ -1,4 +1,5 @@
 pub mod Rows
+pub mod Choose
 pub mod Spans
 pub mod Matching
 pub mod Queue

@@ -18,6 +18,7 @@ use Rattle.reading.specs.Machine.{amend, amend-last}
 use Rattle.reading.specs.Tokens.{closed-by, closing-of, link-sort}
 use Rattle.reading.specs.Containers.{seek}
 use Rattle.reading.specs.Walked.{Walk, neither, walk-by, walk-of}
+use Rattle.reading.proofs.Choose.{choose}
 use Rattle.reading.proofs.Matching.{Still, still-nil, still-neither, still-append, Wraps, Plain, plain-still, plain-append, plain-take}
 use Rattle.reading.proofs.Matching.{Top, LinkTop, TopBy, Parts, parts-append, parts-drop}
 use Rattle.reading.proofs.Spans.{length-amend-last}
@@ -52,20 +53,14 @@ walks-amend f z h (suc i) (e ∷ q) = ap (λ (l : List Walk). walk-of e ∷ l) (
 pub parts-seek : (c : ℕ) (w : List Walk) (os : List Opener) → Parts w os → Parts w (seek c os)
 unfolding seek
 parts-seek c w [] p = p
-parts-seek c w (o ∷ os) p = go (eqb (closed-by (o .sort)) c) (parts-seek c w os (parts-drop w o os p))
-  where
-    go : (b : Bool) → Parts w (seek c os) → Parts w (elim b [ true ↦ o ∷ os | false ↦ seek c os ])
-    go true r = p
-    go false r = r
+parts-seek c w (o ∷ os) p =
+    choose (Parts w) (eqb (closed-by (o .sort)) c) _ _ (λ e. p) (λ e. parts-seek c w os (parts-drop w o os p))
 
 pub seek-few : (c : ℕ) (os : List Opener) → length (seek c os) ≤ length os
 unfolding seek
 seek-few c [] = omega arith
-seek-few c (o ∷ os) = go (eqb (closed-by (o .sort)) c) (seek-few c os)
-  where
-    go : (b : Bool) → length (seek c os) ≤ length os → length {A = Opener} (elim b [ true ↦ o ∷ os | false ↦ seek c os ]) ≤ suc (length os)
-    go true r = omega arith
-    go false r = omega arith
+seek-few c (o ∷ os) =
+    choose (λ (l : List Opener). length l ≤ suc (length os)) (eqb (closed-by (o .sort)) c) _ _ (λ e. omega arith) (λ e. omega (arith, seek-few c os))
 
 -- a pair: the opener's event becomes x, and y is put
 pub top-close : (w : List Walk) (os : List Opener) (n : ℕ) (x y : Walk) → Top (λ (p : List Walk). Parts p os) w n → Wraps x y

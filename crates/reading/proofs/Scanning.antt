@@ -120,8 +120,18 @@ module _ (Loose : ℕ → Type 0) (text : List ℕ) where
       autolinked-fine l =
           fine-at Loose text v m (suc (h .from)) (h .to + n + 1) (omega (arith, k .long)) _ _ (fresh-sound (v .bytes) (h .to + n + 1) _ within) refl
           (good-out Loose text _ _ _ no
-          (out-puts Loose text _ no-str (v .base + h .from) (v .base + (h .to + n + 1)) (m + h .from) (m + (h .to + n + 1)) s g
-          (gap-none Loose (v .base + h .from), omega (arith, k .long), (gap-none Loose (v .base + h .to), omega arith, (gap-none Loose (v .base + h .to + n),
-          omega arith, gap-same Loose _ _ (omega arith))))
+          (out-puts Loose text _ no-str (v .base + h .from) (v .base + (h .to + n + 1)) (m + h .from) (m + (h .to + n + 1)) s g (
+            gap-none Loose (v .base + h .from),
+            omega (arith, k .long),
+            (
+              gap-none Loose (v .base + h .to),
+              omega arith,
+              (
+                gap-none Loose (v .base + h .to + n),
+                omega arith,
+                gap-same Loose _ _ (omega arith),
+              ),
+            ),
+          )
           (wraps-match _ (neither ∷ []) (still-neither [] still-nil))
           (omega (arith, k .long)) (inl refl)))

@@ -39,6 +39,7 @@ use Rattle.reading.specs.Containers.{container}
 use Rattle.reading.specs.Reading.{refuse, angle, colon, noted, bracketed, outside, by-place, here-at, on-token, unless-refused, step}
 use Rattle.reading.specs.Reading.{drops-in, drops-on, drops-unless, step-drops}
 use Rattle.reading.specs.Walked.{Of}
+use Rattle.reading.proofs.Choose.{choose}
 use Rattle.reading.proofs.Good.{Out, In, Good, GoodBy, good-few}
 use Rattle.reading.proofs.Tables.{MarksOk, RoleOk, plain-ok, bracket-ok, role-ok}
 use Rattle.reading.proofs.Places.{HereOk, here-ok, here-with, peek-sound, peek-place, Taken, peeked-taken, Fine}
@@ -110,7 +111,10 @@ module _ (Loose : ℕ → Type 0) (text : List ℕ) (x : Sheet) (v : View) (m : 
       bracketed-fine : (t : Next) → ahead-of .token ≡ t → Fine Loose text v m (suc i) (bracketed x v now ahead-of t s)
       unfolding bracketed
       bracketed-fine next.None e = contained j (ahead-of .cursor) here-there bracket bracket-ok
-      bracketed-fine (next.Some t) e = go (is-caret (role-of (t .kind)))
+      bracketed-fine (next.Some t) e =
+          choose (Fine Loose text v m (suc i)) (is-caret (role-of (t .kind))) _ _
+          (λ c. noted-fine (j + t .len) behind both (footnoteOf (drop (j + t .len) (v .bytes))) refl)
+          (λ c. contained j (ahead-of .cursor) here-there bracket bracket-ok)
         where
           u : Taken (v .bytes) (ahead-of .cursor) (t .len)
           u = peeked-taken (v .bytes) (ahead-of .cursor) t sound-there (peek-kept (v .bytes) c .held ∙ e)
@@ -127,21 +131,12 @@ module _ (Loose : ℕ → Type 0) (text : List ℕ) (x : Sheet) (v : View) (m : 
                 sound = u .sound;
               }
 
-          go : (b : Bool) → Fine Loose text v m (suc i) (elim b [
-            | true ↦ noted x v (record { from = i; to = j + t .len; cursor = behind }) (footnoteOf (drop (j + t .len) (v .bytes))) s
-            | false ↦ container x v (record { from = i; to = j; cursor = ahead-of .cursor }) bracket s
-          ])
-          go true = noted-fine (j + t .len) behind both (footnoteOf (drop (j + t .len) (v .bytes))) refl
-          go false = contained j (ahead-of .cursor) here-there bracket bracket-ok
-
       -- a token outside verbatim
       outside-held : (r : Role) → RoleOk r → Held Loose text v m (suc i) (outside x v now r s)
       unfolding outside RoleOk
-      outside-held role.Backticks ok = held (suc i) _ (go (leb (j - i) 255))
-        where
-          go : (b : Bool) → Fine Loose text v m (suc i) (elim b [ true ↦ opens-verbatim v now s | false ↦ container x v now (plain str) s ])
-          go true = opens-fine Loose text v m now k s g
-          go false = str-fine j c k
+      outside-held role.Backticks ok =
+          held (suc i) _
+          (choose (Fine Loose text v m (suc i)) (leb (j - i) 255) _ _ (λ e. opens-fine Loose text v m now k s g) (λ e. str-fine j c k))
       outside-held role.Brace ok =
           record {
             sound = k .sound;
@@ -154,14 +149,10 @@ module _ (Loose : ℕ → Type 0) (text : List ℕ) (x : Sheet) (v : View) (m : 
       outside-held role.Bracket ok = held (suc i) _ (bracketed-fine (ahead-of .token) refl)
       outside-held role.Paren ok = held (suc i) _ (str-fine j c k)
       outside-held role.Periods ok = held (suc i) _ (dots-fine Loose text v m now k s no g)
-      outside-held role.Hyphens ok = held (suc i) _ (go (ltb (j - i) 2) refl)
-        where
-          go : (b : Bool) → ltb (j - i) 2 ≡ b → Fine Loose text v m (suc i) (elim b [
-            | true ↦ container x v now (plain str) s
-            | false ↦ record { cursor = c; state = puts (dashes (dashesOf (j - i)) (v .base + i)) no-str s }
-          ])
-          go true e = str-fine j c k
-          go false e = dashes-fine Loose text v m now k s no g (omega (arith, ltb-false (j - i) 2 e))
+      outside-held role.Hyphens ok =
+          held (suc i) _
+          (choose (Fine Loose text v m (suc i)) (ltb (j - i) 2) _ _ (λ e. str-fine j c k)
+          (λ e. dashes-fine Loose text v m now k s no g (omega (arith, ltb-false (j - i) 2 e))))
       outside-held (role.Other mk) ok = held (suc i) _ (contained j c k mk ok)
 
   -- another bound

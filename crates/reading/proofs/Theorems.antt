@@ -51,9 +51,12 @@ rising text a (l ∷ ls) e f =
         → ltb (elim r [ true ↦ suc (first-early (l .end) ls) | false ↦ 0 ]) (suc (length ls)) ≡ false
         → (ltb (first-outside text ls) (length ls) ≡ false → ltb (first-early (l .end) ls) (length ls) ≡ false → Rising text (l .end) ls)
         → (a ≤ l .start) × (l .start ≤ l .end) × (l .end ≤ length text) × Rising text (l .end) ls
-    go true p true q true r e f k =
-        (leb-true a (l .start) r, leb-true (l .start) (l .end) p, leb-true (l .end) (length text) q,
-        k (lower (first-outside text ls) (length ls) e) (lower (first-early (l .end) ls) (length ls) f))
+    go true p true q true r e f k = (
+      leb-true a (l .start) r,
+      leb-true (l .start) (l .end) p,
+      leb-true (l .end) (length text) q,
+      k (lower (first-outside text ls) (length ls) e) (lower (first-early (l .end) ls) (length ls) f),
+    )
     go false p q q' r r' e f k = absurd (omega (arith, ltb-false 0 (suc (length ls)) e))
     go true p false q r r' e f k = absurd (omega (arith, ltb-false 0 (suc (length ls)) e))
     go true p true q false r e f k = absurd (omega (arith, ltb-false 0 (suc (length ls)) f))
@@ -81,14 +84,15 @@ module _ (x : Sheet) where
       → ((i : ℕ) → a ≤ i → Of all i → Of ls i) → Apart Loose (x .text) x a ls
   unfolding Rising Apart Of
   apart Loose all f a [] r h = tt
-  apart Loose all f a (l ∷ ls) r h =
-      (record {
-        up = r .0;
-        loose = λ i lo hi. f i (λ o.
-            let b = of-behind (x .text) (l .start) (l ∷ ls) i (omega arith, r .1, r .2, r .3) (h i lo o) in
-            absurd (omega (arith, b, hi)));
-      },
-      apart Loose all f (l .end) ls (r .3) (λ i lo o. rest i lo (h i (omega (arith, lo, r .0, r .1)) o)))
+  apart Loose all f a (l ∷ ls) r h = (
+    record {
+      up = r .0;
+      loose = λ i lo hi. f i (λ o.
+          let b = of-behind (x .text) (l .start) (l ∷ ls) i (omega arith, r .1, r .2, r .3) (h i lo o) in
+          absurd (omega (arith, b, hi)));
+    },
+    apart Loose all f (l .end) ls (r .3) (λ i lo o. rest i lo (h i (omega (arith, lo, r .0, r .1)) o)),
+  )
     where
       rest : (i : ℕ) → l .end ≤ i → Of (l ∷ ls) i → Of ls i
       rest i lo (inl y) = absurd (omega (arith, lo, y .1))
@@ -239,8 +243,8 @@ module _ (x : Sheet) where
 
   pub enough : (ls : List Line) → Fed (x .text) ls → (i : ℕ) (l : Line) (ms : List Line) → drop i ls ≡ l ∷ ms → (k : ℕ)
       → let v = viewOf (x .text) l in
-        let a = begun x v (lines x (views (x .text) (take i ls)) start) in
-        steps (length (v .bytes) + k) x v a ≡ steps (length (v .bytes)) x v a
+      let a = begun x v (lines x (views (x .text) (take i ls)) start) in
+      steps (length (v .bytes) + k) x v a ≡ steps (length (v .bytes)) x v a
   unfolding Rising Apart
   enough ls fed i l ms e k =
       let v = viewOf (x .text) l in

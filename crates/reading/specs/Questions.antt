@@ -5,7 +5,6 @@ use mathlib.Core.List.{List, [], _∷_, _++_, map}
 use mathlib.Core.Bool.{Bool, true, false, not, _&&_, _||_}
 use lib.Dec.{leb, ltb, eqb}
 use lib.ListN.{length, replicate}
-
 use Rattle.reading.specs.declared.Line.{Line}
 use Rattle.reading.specs.declared.Place.{Place}
 use Rattle.reading.specs.declared.Event.{Event}

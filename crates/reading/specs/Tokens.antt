@@ -174,13 +174,12 @@ is-run role.Periods = false
 is-run role.Hyphens = false
 is-run (role.Other m) = false
 
-unfoldable opens-closed-by : ℕ → Opens → Bool
+unfoldable pub opens-closed-by : ℕ → Opens → Bool
 opens-closed-by c None = false
 opens-closed-by c (Some s) = eqb (closed-by s) c
 
 -- an opener of the sort that a mark closes
 unfoldable pub opens-a : ℕ → Role → Bool
-unfolding opens-closed-by
 opens-a c role.Backticks = false
 opens-a c role.Brace = false
 opens-a c role.Lt = false
