@@ -133,3 +133,100 @@ pub fn periods(len: usize) -> (usize, usize) {
     }
     (ellipses, rest)
 }
+
+/// What a sheet gives: events of seven numbers, the label room, and the first bare brace outside verbatim.
+#[allow(dead_code)]
+#[derive(Clone, Debug, Default, PartialEq)]
+pub struct Sheet {
+    pub events: Vec<[u32; 7]>,
+    pub labels: Vec<u8>,
+    pub brace: Option<usize>,
+}
+
+/// The place of a part of the text.
+#[allow(dead_code)]
+pub fn part(text: &str, s: &str) -> [u32; 3] {
+    let start = s.as_ptr() as usize - text.as_ptr() as usize;
+    [1, start as u32, (start + s.len()) as u32]
+}
+
+/// A sheet read by a parser of a module that is `inline.rs`. Labels that the Rust owns stand in the label room one behind the other.
+#[macro_export]
+macro_rules! reads {
+    ($name:ident, $module:ident) => {
+        pub fn $name(text: &str, lines: &[(usize, usize)]) -> $crate::oracle::Sheet {
+            use std::borrow::Cow;
+            use $crate::oracle::{part, Sheet};
+            use $crate::$module::{Atom, Container, EventKind, Parser, QuoteType};
+            let mut sheet = Sheet::default();
+            if lines.is_empty() {
+                return sheet;
+            }
+            let mut parser = Parser::new(text);
+            for (i, &(start, end)) in lines.iter().enumerate() {
+                parser.feed_line(start..end, i + 1 == lines.len());
+            }
+            let events: Vec<_> = parser.by_ref().collect();
+            let mut homes = Vec::new();
+            for label in &parser.store_cowstrs {
+                match label {
+                    Cow::Borrowed(s) => homes.push(part(text, s)),
+                    Cow::Owned(s) => {
+                        let start = sheet.labels.len() as u32;
+                        sheet.labels.extend(s.as_bytes());
+                        homes.push([2, start, sheet.labels.len() as u32]);
+                    }
+                }
+            }
+            let container = |c: Container| match c {
+                Container::Span => (0, [0; 3], 0),
+                Container::Subscript => (1, [0; 3], 0),
+                Container::Superscript => (2, [0; 3], 0),
+                Container::Insert => (3, [0; 3], 0),
+                Container::Delete => (4, [0; 3], 0),
+                Container::Emphasis => (5, [0; 3], 0),
+                Container::Strong => (6, [0; 3], 0),
+                Container::Mark => (7, [0; 3], 0),
+                Container::Verbatim => (8, [0; 3], 0),
+                Container::RawFormat { format } => (9, part(text, format), 0),
+                Container::InlineMath => (10, [0; 3], 0),
+                Container::DisplayMath => (11, [0; 3], 0),
+                Container::ReferenceLink(i) => (12, homes[i as usize], i),
+                Container::ReferenceImage(i) => (13, homes[i as usize], i),
+                Container::InlineLink(i) => (14, homes[i as usize], i),
+                Container::InlineImage(i) => (15, homes[i as usize], i),
+                Container::Autolink(url) => (16, part(text, url), 0),
+            };
+            for e in events {
+                let (kind, home, link) = match e.kind {
+                    EventKind::Str => (1, [0; 3], 0),
+                    EventKind::Atom(a) => match a {
+                        Atom::Softbreak => (2, [0; 3], 0),
+                        Atom::Hardbreak => (3, [0; 3], 0),
+                        Atom::Escape => (4, [0; 3], 0),
+                        Atom::Nbsp => (5, [0; 3], 0),
+                        Atom::Ellipsis => (6, [0; 3], 0),
+                        Atom::EnDash => (7, [0; 3], 0),
+                        Atom::EmDash => (8, [0; 3], 0),
+                        Atom::Quote { ty: QuoteType::Single, left } => (if left { 9 } else { 10 }, [0; 3], 0),
+                        Atom::Quote { ty: QuoteType::Double, left } => (if left { 11 } else { 12 }, [0; 3], 0),
+                        Atom::Symbol(s) => (13, part(text, s), 0),
+                        Atom::FootnoteReference { label } => (14, part(text, label), 0),
+                    },
+                    EventKind::Enter(c) => {
+                        let (k, home, link) = container(c);
+                        (32 + k, home, link)
+                    }
+                    EventKind::Exit(c) => {
+                        let (k, home, link) = container(c);
+                        (64 + k, home, link)
+                    }
+                    kind => panic!("{kind:?} is handed out"),
+                };
+                sheet.events.push([kind, e.span.start as u32, e.span.end as u32, home[0], home[1], home[2], link]);
+            }
+            sheet.brace = Some($crate::attr::asked()).filter(|&p| p != 0).map(|p| p - text.as_ptr() as usize);
+            sheet
+        }
+    };
+}

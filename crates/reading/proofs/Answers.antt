@@ -1,5 +1,5 @@
 -- Whoever lends N + 1 event records is never refused for event room.
-use Prim.Native.Nat.{ℕ, suc, _+_, _*_, _/_, _≤_, _<_}
+use Prim.Native.Nat.{ℕ, _+_, _*_, _/_, _≤_}
 use mathlib.Core.Path.{_≡_, refl, sym, ap, _∙_}
 use mathlib.Core.List.{List}
 use mathlib.Core.Bool.{Bool, true, false, _&&_}
@@ -10,10 +10,10 @@ use lib.ListN.{length}
 use Rattle.reading.specs.declared.Line.{Line}
 use Rattle.reading.specs.declared.Refused.{Refused}
 use Rattle.reading.specs.declared.Refused.the-variants as refused
-use Rattle.reading.specs.Machine.{Sheet, State}
+use Rattle.reading.specs.Machine.{State}
 use Rattle.reading.specs.Reading.{sheet, read}
 use Rattle.reading.specs.Draining.{drain}
-use Rattle.reading.specs.Questions.{Rooms, Outcome, Fed, total, first-outside, first-early, label-room, refuses, handed-out, judged, outcome}
+use Rattle.reading.specs.Questions.{Rooms, Outcome, Fed, total, first-outside, first-early, label-room, handed-out, judged, outcome}
 use Rattle.reading.proofs.Choose.{choose}
 use Rattle.reading.proofs.Theorems.{room}
 

@@ -1,8 +1,8 @@
 -- Verbatim: the invariant behind a run that opens, content, dropped blanks and a run that closes; and what is dropped is blank.
-use Prim.Native.Nat.{ℕ, zero, suc, _+_, _-_, _*_, _≤_, _<_}
+use Prim.Native.Nat.{ℕ, zero, suc, _+_, _-_, _≤_, _<_}
 use mathlib.Core.Path.{_≡_, refl, sym, ap, _∙_, subst}
-use mathlib.Core.List.{List, [], _∷_, _++_, map, append-nil}
-use mathlib.Core.Bool.{Bool, true, false, not, _&&_, and-eq-true-iff}
+use mathlib.Core.List.{List, [], _∷_, _++_, map}
+use mathlib.Core.Bool.{Bool, true, false, _&&_, and-eq-true-iff}
 use mathlib.Core.Logic.{_⊎_, inl, inr, ⊎-elim}
 use native.Mathlib.Omega.{arith}
 use borrow.Author.Tests.{eqb-true}
@@ -14,11 +14,10 @@ use Rattle.lex.specs.declared.lex.Token.{Token}
 use Rattle.lex.specs.declared.lex.Next.{Next}
 use Rattle.lex.specs.declared.lex.Next.the-variants as next
 use Rattle.lex.specs.declared.lex.Cursor.{Cursor}
-use Rattle.lex.specs.Lexer.{freshOf, peekOf}
+use Rattle.lex.specs.Lexer.{peekOf}
 use Rattle.lex.proofs.Laws.{Sound, fresh-sound}
 use Rattle.scan.specs.declared.Ahead.{Ahead}
 use Rattle.scan.specs.declared.Ahead.the-variants as ahead
-use Rattle.scan.specs.Scans.{rawFormatOf}
 use Rattle.scan.proofs.Laws.{raw-format-some}
 use Rattle.reading.specs.declared.Line.{Line}
 use Rattle.reading.specs.declared.Event.{Event}
@@ -27,18 +26,18 @@ use Rattle.reading.specs.declared.Opener.{Opener}
 use Rattle.reading.specs.declared.Verbatim.{Verbatim}
 use Rattle.reading.specs.declared.Inside.{Inside}
 use Rattle.reading.specs.declared.Inside.the-variants as inside
-use Rattle.reading.specs.Events.{Home, homed, event, nowhere, in-text, becomes, shorter, exit-of, enter, str, raw-format, verbatim, inline-math, display-math}
-use Rattle.reading.specs.Machine.{View, Rules, State, Turn, Here, amend, amend-last, put, with-queue}
-use Rattle.reading.specs.Tokens.{role-of, is-run, is-format}
-use Rattle.reading.specs.Verbatim.{flagged, taken, opened-as, opens-with, opens-verbatim, closes, kept, cut, nothing, exits, format-ahead}
+use Rattle.reading.specs.Events.{Home, event, nowhere, in-text, becomes, shorter, exit-of, enter, str, raw-format}
+use Rattle.reading.specs.Machine.{View, Rules, State, Turn, Here, amend, amend-last, put}
+use Rattle.reading.specs.Tokens.{role-of, is-format}
+use Rattle.reading.specs.Verbatim.{flagged, taken, opened-as, opens-verbatim, closes, kept, cut, nothing, format-ahead}
 use Rattle.reading.specs.Verbatim.{formatted, closed-with, closes-verbatim, all-blank, bytes-of, skips, content, blank-content, in-verbatim}
 use Rattle.reading.specs.Verbatim.{span-of, drops-at}
-use Rattle.reading.specs.Walked.{walk-by, walk-of, Of}
+use Rattle.reading.specs.Walked.{walk-by, Of}
 use Rattle.reading.proofs.Choose.{choose, choose₂}
 use Rattle.reading.proofs.Matching.{Wraps, wraps-match, Parts}
-use Rattle.reading.proofs.Spans.{Gap, Covers, gap-none, gap-same, covers-append, covers-after, covers-amend, covers-cut, covers-same, covers-shorter, covers-one}
+use Rattle.reading.proofs.Spans.{Covers, covers-append, covers-after, covers-amend, covers-cut, covers-same, covers-shorter, covers-one}
 use Rattle.reading.proofs.Spans.{amend-last-at, length-amend, length-amend-last}
-use Rattle.reading.proofs.Queue.{walks, Inner, inner-put, inner-same, inner-amend, inner-exit, inner-open}
+use Rattle.reading.proofs.Queue.{walks, Inner, inner-put, inner-amend, inner-exit, inner-open}
 use Rattle.reading.proofs.Good.{Out, In, Good, GoodBy, Ends, LastOk, Blank, walk-neither}
 use Rattle.reading.proofs.Places.{HereOk, Fine, fine-at, sound-flagged, peek-sound, peek-place}
 

@@ -1,16 +1,15 @@
 -- Containers: whatever a token closes or opens, the invariant holds behind it.
 use Prim.Native.Nat.{ℕ, zero, suc, _+_, _-_, _≤_, _<_}
 use mathlib.Core.Path.{_≡_, refl, sym, ap, _∙_, subst}
-use mathlib.Core.List.{List, [], _∷_, _++_, map, append-assoc}
-use mathlib.Core.Bool.{Bool, true, false}
-use mathlib.Core.Logic.{_⊎_, inl, inr}
+use mathlib.Core.List.{List, [], _∷_, _++_}
+use mathlib.Core.Bool.{Bool}
+use mathlib.Core.Logic.{inl}
 use native.Mathlib.Omega.{arith}
 use lib.ListN.{length, take, set, length-append, length-map}
-use Rattle.lex.specs.declared.lex.Token.{Token}
 use Rattle.lex.specs.declared.lex.Next.{Next}
 use Rattle.lex.specs.declared.lex.Next.the-variants as next
 use Rattle.lex.specs.declared.lex.Cursor.{Cursor}
-use Rattle.lex.specs.Lexer.{nextOf, peekOf}
+use Rattle.lex.specs.Lexer.{peekOf}
 use Rattle.lex.proofs.Laws.{Sound, peek-kept}
 use Rattle.reading.specs.declared.Event.{Event}
 use Rattle.reading.specs.declared.Sort.{Sort}
@@ -23,8 +22,8 @@ use Rattle.reading.specs.declared.Inside.{Inside}
 use Rattle.reading.specs.declared.Inside.the-variants as inside
 use Rattle.reading.specs.declared.DelimEventKind.{DelimEventKind}
 use Rattle.reading.specs.declared.DelimEventKind.the-variants as makes
-use Rattle.reading.specs.Events.{Home, event, nowhere, becomes, becomes-to, enter, exit, str}
-use Rattle.reading.specs.Machine.{View, Sheet, State, Turn, Here, amend, put, with-openers}
+use Rattle.reading.specs.Events.{event, nowhere, becomes, becomes-to, enter, exit, str}
+use Rattle.reading.specs.Machine.{View, Sheet, State, Here, amend, put, with-openers}
 use Rattle.reading.specs.Tokens.{role-of, unclosed, closing-of, link-sort}
 use Rattle.reading.specs.Labels.{Shelved}
 use Rattle.reading.specs.Containers.{Taken, taken, left, seek, may-close, closes-pair, takes, span-with, closes-span, labelled, closes-link}
@@ -37,7 +36,6 @@ use Rattle.reading.proofs.Queue.{walks, walks-append, walks-take, walks
 use Rattle.reading.proofs.Queue.{Single, parts-open, parts-link}
 use Rattle.reading.proofs.Good.{Out, Good, GoodBy, out-put, out-openers, walk-neither}
 use Rattle.reading.proofs.Tables.{KindOk, closing-ok, unclosed-low, link-not-single, OpensOk, MarksOk}
-use Rattle.reading.proofs.Places as places
 use Rattle.reading.proofs.Places.{HereOk, Fine, fine-at, peek-sound, peek-place, peeked-taken}
 
 take-few : (n : ℕ) (l : List Event) → length (take n l) ≤ length l

@@ -1,22 +1,22 @@
 -- Draining keeps the walk and the cover, and makes the list no longer. And what a cover says of each byte.
-use Prim.Native.Nat.{ℕ, zero, suc, _+_, _≤_, _<_}
-use mathlib.Core.Path.{_≡_, refl, sym, ap, _∙_, subst}
-use mathlib.Core.List.{List, [], _∷_, _++_, map}
-use mathlib.Core.Bool.{Bool, true, false, _&&_}
+use Prim.Native.Nat.{ℕ, suc, _+_, _≤_, _<_}
+use mathlib.Core.Path.{_≡_, refl, subst}
+use mathlib.Core.List.{List, [], _∷_}
+use mathlib.Core.Bool.{true, _&&_}
 use mathlib.Core.Logic.{_⊎_, inl, inr}
 use native.Mathlib.Nat.{zero-add}
 use native.Mathlib.Decide.{decLt}
 use native.Mathlib.Omega.{arith}
-use borrow.Author.Tests.{eqb-true, eqb-false, eq-eqb, le-leb, lt-leb, lt-ltb, le-ltb}
+use borrow.Author.Tests.{eqb-true, eq-eqb, le-leb, lt-leb, lt-ltb, le-ltb}
 use lib.Dec.{eqb, leb, ltb}
 use lib.ListN.{length}
 use Rattle.classes.specs.Classes.{bit}
 use Rattle.reading.specs.declared.Event.{Event}
-use Rattle.reading.specs.Events.{Home, event, homeOf, nowhere, str}
+use Rattle.reading.specs.Events.{homeOf, str}
 use Rattle.reading.specs.Draining.{flushed, drained}
 use Rattle.reading.specs.Walked.{Tag, Walk, opening, closing, neither, walk-by, walk-of, Matches, Ordered, under}
 use Rattle.reading.proofs.Choose.{choose}
-use Rattle.reading.proofs.Spans.{Gap, Covers, gap-none, gap-join, covers-before, covers-up}
+use Rattle.reading.proofs.Spans.{Gap, Covers, gap-none, covers-before}
 use Rattle.reading.proofs.Queue.{walks}
 
 -- fewer, or as many

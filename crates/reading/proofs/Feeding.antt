@@ -1,32 +1,28 @@
 -- Steps, lines and the end keep the invariant.
-use Prim.Native.Nat.{ℕ, zero, suc, _+_, _-_, _≤_, _<_}
-use mathlib.Core.Path.{_≡_, refl, sym, ap, _∙_, subst}
-use mathlib.Core.List.{List, [], _∷_, _++_, map}
-use mathlib.Core.Bool.{Bool, true, false}
+use Prim.Native.Nat.{ℕ, zero, suc, _+_, _-_, _≤_}
+use mathlib.Core.Path.{_≡_, refl, sym, _∙_, subst}
+use mathlib.Core.List.{List, [], _∷_, _++_}
+use mathlib.Core.Bool.{true, false}
 use mathlib.Core.Logic.{_⊎_, inl, inr, ⊎-elim}
 use native.Mathlib.Omega.{arith}
-use lib.ListN.{length, getD, take, drop, length-drop}
-use lib.Seq.{length-take-le, getD-take, getD-drop, take-all}
+use lib.ListN.{length, getD, drop, length-drop}
+use lib.Seq.{length-take-le, getD-take, getD-drop}
 use Rattle.classes.specs.Classes.{blank}
-use Rattle.lex.specs.Lexer.{freshOf}
-use Rattle.lex.proofs.Laws.{Sound, fresh-sound}
+use Rattle.lex.proofs.Laws.{fresh-sound}
 use Rattle.reading.specs.declared.Line.{Line}
-use Rattle.reading.specs.declared.Event.{Event}
 use Rattle.reading.specs.declared.Verbatim.{Verbatim}
 use Rattle.reading.specs.declared.Inside.{Inside}
 use Rattle.reading.specs.declared.Inside.the-variants as inside
-use Rattle.reading.specs.declared.Refused.{Refused}
 use Rattle.reading.specs.declared.Refused.the-variants as refused
 use Rattle.reading.specs.Machine.{View, Sheet, State, Turn, viewOf}
-use Rattle.reading.specs.Verbatim.{moved-on, ended-at, kept, cut, span-of}
+use Rattle.reading.specs.Verbatim.{moved-on, ended-at, kept, cut}
 use Rattle.reading.specs.Reading.{step, steps, begun, line, lines, start, end-of, views, step-drops, steps-drop, lines-drop, during}
 use Rattle.reading.specs.Walked.{Of}
 use Rattle.reading.specs.Questions.{total}
 use Rattle.reading.proofs.Matching.{Parts, still-nil}
 use Rattle.reading.proofs.Spans.{Gap, Covers, gap-none, covers-after}
 use Rattle.reading.proofs.Queue.{inner-same}
-use Rattle.reading.proofs.Good.{Out, In, Good, GoodBy, good-few}
-use Rattle.reading.proofs.Places.{Fine}
+use Rattle.reading.proofs.Good.{Out, Good, GoodBy}
 use Rattle.reading.proofs.Backticks.{Shows, exits-out}
 use Rattle.reading.proofs.Stepping.{Held, held-less, step-held, step-blank}
 

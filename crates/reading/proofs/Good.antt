@@ -1,32 +1,29 @@
 -- The invariant of a reading, outside and inside verbatim, and what each change of the state makes of it. `at` is the place up to which the
 -- queue's spans go, and n bounds the bytes of the lines up to there.
-use Prim.Native.Nat.{ℕ, zero, suc, _+_, _-_, _*_, _≤_, _<_}
-use mathlib.Core.Path.{_≡_, refl, sym, ap, _∙_, subst}
-use mathlib.Core.List.{List, [], _∷_, _++_, map, append-assoc}
-use mathlib.Core.Bool.{Bool, true, false, not, _&&_, and-eq-true-iff}
-use mathlib.Core.Logic.{_⊎_, inl, inr, ⊎-elim}
+use Prim.Native.Nat.{ℕ, suc, _+_, _-_, _≤_, _<_}
+use mathlib.Core.Path.{_≡_, refl}
+use mathlib.Core.List.{List, [], _∷_, _++_, map}
+use mathlib.Core.Bool.{true, _&&_, and-eq-true-iff}
+use mathlib.Core.Logic.{_⊎_, inl, inr}
 use native.Mathlib.Omega.{arith}
-use borrow.Author.Tests.{eqb-true, ltb-true, lt-ltb}
+use borrow.Author.Tests.{ltb-true, lt-ltb}
 use lib.Dec.{eqb, ltb}
-use lib.ListN.{length, getD, take, drop, length-append, length-map}
-use lib.Seq.{take-all}
+use lib.ListN.{length, getD, drop, length-append}
 use Rattle.classes.specs.Classes.{blank}
 use Rattle.reading.specs.declared.Event.{Event}
-use Rattle.reading.specs.declared.Sort.{Sort}
 use Rattle.reading.specs.declared.Opener.{Opener}
 use Rattle.reading.specs.declared.Last.{Last}
 use Rattle.reading.specs.declared.Verbatim.{Verbatim}
 use Rattle.reading.specs.declared.Inside.{Inside}
 use Rattle.reading.specs.declared.Inside.the-variants as inside
-use Rattle.reading.specs.Events.{Home, event, homed, str}
-use Rattle.reading.specs.Machine.{View, State, prev, dollar, dollarsOf, lastOf, no-str, puts, put, with-openers}
-use Rattle.reading.specs.Tokens.{unclosed, closing-of}
+use Rattle.reading.specs.Events.{Home, event, str}
+use Rattle.reading.specs.Machine.{View, State, dollar, dollarsOf, lastOf, puts, put, with-openers}
 use Rattle.reading.specs.Verbatim.{span-of}
-use Rattle.reading.specs.Walked.{Walk, neither, walk-by, walk-of, Of}
+use Rattle.reading.specs.Walked.{neither, walk-by, Of}
 use Rattle.reading.proofs.Choose.{choose}
 use Rattle.reading.proofs.Matching.{Still, still-nil, still-neither, Parts, parts-append}
-use Rattle.reading.proofs.Spans.{Gap, Covers, gap-none, covers-append, covers-one}
-use Rattle.reading.proofs.Queue.{walks, walks-append, Single, parts-open, Inner}
+use Rattle.reading.proofs.Spans.{Covers, covers-append, covers-one}
+use Rattle.reading.proofs.Queue.{walks, walks-append, Inner}
 
 -- the dollars of a Str lie within it
 pub dollars-within : (v : View) (i j : ℕ) → i ≤ j → i + dollarsOf v i j ≤ j

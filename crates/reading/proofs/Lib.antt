@@ -1,3 +1,5 @@
+pub mod Sheets
+pub mod Sampled
 pub mod Rows
 pub mod Choose
 pub mod Spans

@@ -1,18 +1,17 @@
 -- Where a token stands, and the cursor behind it.
-use Prim.Native.Nat.{ℕ, suc, _+_, _≤_, _<_}
-use mathlib.Core.Path.{_≡_, refl, sym, ap, _∙_, subst}
+use Prim.Native.Nat.{ℕ, _+_, _≤_, _<_}
+use mathlib.Core.Path.{_≡_, sym, ap, _∙_, subst}
 use mathlib.Core.List.{List}
-use mathlib.Core.Bool.{Bool, true, false}
+use mathlib.Core.Bool.{Bool}
 use native.Mathlib.Omega.{arith}
-use lib.ListN.{length, drop, length-drop}
+use lib.ListN.{length, length-drop}
 use Rattle.lex.specs.declared.lex.Token.{Token}
-use Rattle.lex.specs.declared.lex.Next.{Next}
 use Rattle.lex.specs.declared.lex.Next.the-variants as next
 use Rattle.lex.specs.declared.lex.Cursor.{Cursor}
 use Rattle.lex.specs.declared.lex.Lexed.{Lexed}
-use Rattle.lex.specs.Lexer.{freshOf, nextOf, peekOf}
+use Rattle.lex.specs.Lexer.{nextOf, peekOf}
 use Rattle.lex.proofs.Walk.{taken-in, next-held}
-use Rattle.lex.proofs.Laws.{Sound, Sounded, Stepped, Peeked, next-stepped, next-sounded, peek-sounded, peek-kept, fresh-sound}
+use Rattle.lex.proofs.Laws.{Sound, next-stepped, next-sounded, peek-sounded, peek-kept}
 use Rattle.reading.specs.Machine.{View, State, Turn, Here}
 use Rattle.reading.specs.Verbatim.{flagged}
 use Rattle.reading.specs.Reading.{here-at}

@@ -1,25 +1,23 @@
 -- What the changes of the queue are to the walk: events put, one changed, the last shortened, a cut; and what each closing leaves.
 use Prim.Native.Nat.{ℕ, zero, suc, _+_, _-_, _≤_, _<_}
-use mathlib.Core.Path.{_≡_, refl, sym, ap, ap₂, _∙_, subst}
-use mathlib.Core.List.{List, [], _∷_, _++_, map, append-assoc, append-nil}
-use mathlib.Core.Bool.{Bool, true, false}
+use mathlib.Core.Path.{_≡_, refl, sym, ap, _∙_, subst}
+use mathlib.Core.List.{List, [], _∷_, _++_, map, append-assoc}
 use native.Mathlib.Omega.{arith}
 use lib.Dec.{eqb}
-use lib.ListN.{length, getD, take, drop, set, length-append, length-map}
-use lib.Seq.{take-append-add, set-append-seam, getD-at, take-all}
+use lib.ListN.{length, getD, take, set, length-append}
+use lib.Seq.{take-append-add, set-append-seam, getD-at}
 use Rattle.reading.specs.declared.Event.{Event}
-use Rattle.reading.specs.declared.Sort.{Sort}
 use Rattle.reading.specs.declared.Opener.{Opener}
 use Rattle.reading.specs.declared.Verbatim.{Verbatim}
 use Rattle.reading.specs.declared.DelimEventKind.{DelimEventKind}
 use Rattle.reading.specs.declared.DelimEventKind.the-variants as makes
-use Rattle.reading.specs.Events.{Home, homeOf, homed, becomes, becomes-to, shorter, exit-of}
+use Rattle.reading.specs.Events.{Home, homeOf, becomes, shorter, exit-of}
 use Rattle.reading.specs.Machine.{amend, amend-last}
-use Rattle.reading.specs.Tokens.{closed-by, closing-of, link-sort}
+use Rattle.reading.specs.Tokens.{closed-by, closing-of}
 use Rattle.reading.specs.Containers.{seek}
 use Rattle.reading.specs.Walked.{Walk, neither, walk-by, walk-of}
 use Rattle.reading.proofs.Choose.{choose}
-use Rattle.reading.proofs.Matching.{Still, still-nil, still-neither, still-append, Wraps, Plain, plain-still, plain-append, plain-take}
+use Rattle.reading.proofs.Matching.{still-nil, Wraps, Plain, plain-still, plain-append, plain-take}
 use Rattle.reading.proofs.Matching.{Top, LinkTop, TopBy, Parts, parts-append, parts-drop}
 use Rattle.reading.proofs.Spans.{length-amend-last}
 

@@ -1,26 +1,24 @@
 -- Accepted scans, dashes and dots: the invariant behind them.
 use Prim.Native.Nat.{ℕ, zero, suc, _+_, _-_, _*_, _≤_, _<_}
-use mathlib.Core.Path.{_≡_, refl, sym, ap, _∙_, subst}
-use mathlib.Core.List.{List, [], _∷_, _++_, map}
-use mathlib.Core.Logic.{_⊎_, inl, inr}
+use mathlib.Core.Path.{_≡_, refl, ap, subst}
+use mathlib.Core.List.{List, [], _∷_, _++_}
+use mathlib.Core.Logic.{inl}
 use native.Mathlib.Nat.{mul-suc}
 use native.Mathlib.Omega.{arith}
 use lib.ListN.{length, drop, length-append, length-drop}
-use Rattle.lex.specs.Lexer.{freshOf}
 use Rattle.lex.proofs.Laws.{fresh-sound}
-use Rattle.dash.specs.declared.Dashes.{Dashes}
 use Rattle.dash.specs.Dashes.{dashesOf, dotsOf}
 use Rattle.dash.proofs.Splits.{dashes-whole, dots-whole}
 use Rattle.reading.specs.declared.Event.{Event}
 use Rattle.reading.specs.declared.Inside.the-variants as inside
-use Rattle.reading.specs.Events.{Home, homed, event, nowhere, in-text, enter, exit, str, ellipsis, endash, emdash, autolink}
-use Rattle.reading.specs.Machine.{View, State, Turn, Here, puts, put, no-str}
+use Rattle.reading.specs.Events.{nowhere, in-text, str, ellipsis, endash, emdash}
+use Rattle.reading.specs.Machine.{View, State, Here, puts, no-str}
 use Rattle.reading.specs.Atoms.{row, dashes, dots, autolinked, named}
-use Rattle.reading.specs.Walked.{Tag, Walk, opening, closing, neither, walk-by, walk-of}
+use Rattle.reading.specs.Walked.{neither, walk-by}
 use Rattle.reading.proofs.Matching.{Still, still-nil, still-neither, still-append, wraps-match, Wraps}
 use Rattle.reading.proofs.Spans.{Covers, gap-none, gap-same, covers-append}
 use Rattle.reading.proofs.Queue.{walks, walks-append}
-use Rattle.reading.proofs.Good.{Out, Good, out-puts, out-put, walk-neither}
+use Rattle.reading.proofs.Good.{Out, out-puts, out-put, walk-neither}
 use Rattle.reading.proofs.Places.{HereOk, Fine, fine-at}
 use Rattle.reading.proofs.Containing.{good-out}
 

@@ -1,11 +1,11 @@
 -- One step keeps the invariant, and takes at least a byte; only at the line's end does it take none. The one case analysis over the rules.
-use Prim.Native.Nat.{ℕ, zero, suc, _+_, _-_, _≤_, _<_}
-use mathlib.Core.Path.{_≡_, refl, sym, ap, _∙_, subst}
-use mathlib.Core.List.{List, [], _∷_, _++_, map}
-use mathlib.Core.Bool.{Bool, true, false}
+use Prim.Native.Nat.{ℕ, suc, _+_, _-_, _≤_}
+use mathlib.Core.Path.{_≡_, refl, sym, ap, _∙_}
+use mathlib.Core.List.{List, []}
+use mathlib.Core.Bool.{true}
 use mathlib.Core.Logic.{_⊎_, inl, inr}
 use native.Mathlib.Omega.{arith}
-use borrow.Author.Tests.{ltb-true, ltb-false}
+use borrow.Author.Tests.{ltb-false}
 use lib.Dec.{leb, ltb}
 use lib.ListN.{length, getD, drop}
 use Rattle.classes.specs.Classes.{blank}
@@ -15,13 +15,11 @@ use Rattle.lex.specs.declared.lex.Next.the-variants as next
 use Rattle.lex.specs.declared.lex.Cursor.{Cursor}
 use Rattle.lex.specs.declared.lex.Lexed.{Lexed}
 use Rattle.lex.specs.Lexer.{nextOf, peekOf}
-use Rattle.lex.proofs.Laws.{Sound, Sounded, next-sounded, peek-kept}
+use Rattle.lex.proofs.Laws.{Sound, next-sounded, peek-kept}
 use Rattle.scan.specs.declared.Ahead.{Ahead}
 use Rattle.scan.specs.declared.Ahead.the-variants as ahead
 use Rattle.scan.specs.Scans.{autolinkOf, symbolOf, footnoteOf}
 use Rattle.scan.proofs.Laws.{autolink-some, autolink-long, symbol-some, footnote-some}
-use Rattle.dash.specs.Dashes.{dashesOf}
-use Rattle.reading.specs.declared.Line.{Line}
 use Rattle.reading.specs.declared.Place.{Place}
 use Rattle.reading.specs.declared.Marks.{Marks}
 use Rattle.reading.specs.declared.Role.{Role}
@@ -31,16 +29,14 @@ use Rattle.reading.specs.declared.Inside.the-variants as inside
 use Rattle.reading.specs.declared.Refused.{Refused}
 use Rattle.reading.specs.declared.Refused.the-variants as refused
 use Rattle.reading.specs.Events.{str, symbol, footnote}
-use Rattle.reading.specs.Machine.{View, Sheet, State, Turn, Here, puts, no-str}
+use Rattle.reading.specs.Machine.{View, Sheet, State, Turn, Here}
 use Rattle.reading.specs.Tokens.{role-of, is-caret, plain, bracket}
-use Rattle.reading.specs.Atoms.{dashes}
-use Rattle.reading.specs.Verbatim.{opens-verbatim, in-verbatim, drops-at}
 use Rattle.reading.specs.Containers.{container}
-use Rattle.reading.specs.Reading.{refuse, angle, colon, noted, bracketed, outside, by-place, here-at, on-token, unless-refused, step}
+use Rattle.reading.specs.Reading.{angle, colon, noted, bracketed, outside, by-place, here-at, on-token, unless-refused, step}
 use Rattle.reading.specs.Reading.{drops-in, drops-on, drops-unless, step-drops}
 use Rattle.reading.specs.Walked.{Of}
 use Rattle.reading.proofs.Choose.{choose}
-use Rattle.reading.proofs.Good.{Out, In, Good, GoodBy, good-few}
+use Rattle.reading.proofs.Good.{Out, Good, GoodBy, good-few}
 use Rattle.reading.proofs.Tables.{MarksOk, RoleOk, plain-ok, bracket-ok, role-ok}
 use Rattle.reading.proofs.Places.{HereOk, here-ok, here-with, peek-sound, peek-place, Taken, peeked-taken, Fine}
 use Rattle.reading.proofs.Containing.{container-fine}

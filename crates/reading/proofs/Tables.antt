@@ -1,7 +1,6 @@
 -- What the tables of tokens and openers keep to: a pair opens and closes the same container, or is two quotes; what stands alone neither opens
 -- nor closes; no token opens a link.
 use Prim.Native.Nat.{ℕ, _<_}
-use mathlib.Core.Path.{_≡_, refl}
 use mathlib.Core.Bool.{Bool, true, false}
 use native.Mathlib.Omega.{arith}
 use Rattle.lex.specs.declared.lex.Kind.{Kind}

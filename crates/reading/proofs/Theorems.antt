@@ -1,9 +1,9 @@
 -- Demand 3 of document 01: of every sheet whose lines pass questions 3 and 4 and that no bare brace refuses, for any bytes and any rules.
 use Prim.Native.Nat.{ℕ, zero, suc, _+_, _-_, _≤_, _<_}
 use mathlib.Core.Path.{_≡_, refl, sym, ap, _∙_, subst}
-use mathlib.Core.List.{List, [], _∷_, _++_, map, append-nil}
+use mathlib.Core.List.{List, [], _∷_, append-nil}
 use mathlib.Core.Bool.{Bool, true, false, _&&_}
-use mathlib.Core.Logic.{_⊎_, inl, inr, ⊎-elim}
+use mathlib.Core.Logic.{_⊎_, inl, inr}
 use native.Mathlib.Nat.{zero-add, suc-add}
 use native.Mathlib.Omega.{arith}
 use borrow.Author.Tests.{leb-true, ltb-false, le-ltb}
@@ -11,7 +11,6 @@ use lib.Dec.{leb, ltb}
 use lib.ListN.{length, getD, take, drop, length-append}
 use Rattle.classes.specs.Classes.{blank}
 use Rattle.reading.specs.declared.Line.{Line}
-use Rattle.reading.specs.declared.Event.{Event}
 use Rattle.reading.specs.declared.Inside.{Inside}
 use Rattle.reading.specs.declared.Inside.the-variants as inside
 use Rattle.reading.specs.declared.Refused.{Refused}
@@ -24,11 +23,10 @@ use Rattle.reading.specs.Machine.{View, Sheet, State, Turn, viewOf}
 use Rattle.reading.specs.Events.{exit-of}
 use Rattle.reading.specs.Verbatim.{nothing, ended-at}
 use Rattle.reading.specs.Reading.{on-token, unless-refused, step, steps, begun, lines, views, start, end-of, read, dropped, moment}
-use Rattle.reading.specs.Draining.{drain}
 use Rattle.reading.specs.Questions.{total, first-outside, first-early, Fed}
 use Rattle.reading.specs.Walked.{Walked, Ordered, Of, Covered, Whole, Matches, under, events}
 use Rattle.reading.proofs.Matching.{Still, parts-all}
-use Rattle.reading.proofs.Spans.{Gap, Covers, gap-none}
+use Rattle.reading.proofs.Spans.{Covers, gap-none}
 use Rattle.reading.proofs.Queue.{walks}
 use Rattle.reading.proofs.Good.{Out}
 use Rattle.reading.proofs.Drains.{drained-walk, drained-covers, drain-few, covers-ordered, under-one}

@@ -4,9 +4,9 @@ use mathlib.Core.List.{List, [], _∷_, _++_}
 use mathlib.Core.Bool.{false}
 use Rattle.lex.specs.Lexer.{freshOf}
 use Rattle.dash.specs.declared.Dashes.{Dashes}
-use Rattle.dash.specs.Dashes.{dashesOf, dotsOf}
+use Rattle.dash.specs.Dashes.{dotsOf}
 use Rattle.reading.specs.declared.Event.{Event}
-use Rattle.reading.specs.Events.{homed, event, in-text, enter, exit, str, ellipsis, endash, emdash, symbol, footnote, autolink}
+use Rattle.reading.specs.Events.{homed, event, in-text, enter, exit, str, ellipsis, endash, emdash, autolink}
 use Rattle.reading.specs.Machine.{View, State, Turn, Here, puts, put, no-str}
 
 -- n events of a kind, each w bytes wide, from a place on

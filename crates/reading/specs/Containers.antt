@@ -1,15 +1,13 @@
 -- Containers (document 01, "Containers"; Djot's rules on emphasis and its like, quotes, spans, links and images).
 use Prim.Native.Nat.{ℕ, suc, _+_, _-_}
-use mathlib.Core.List.{List, [], _∷_, _++_}
+use mathlib.Core.List.{List, [], _∷_}
 use mathlib.Core.Bool.{Bool, true, false, not, _&&_, _||_}
 use lib.Dec.{leb, eqb}
 use lib.ListN.{length, getD, take, drop}
 use Rattle.classes.specs.Classes.{blank}
-use Rattle.lex.specs.declared.lex.Token.{Token}
 use Rattle.lex.specs.declared.lex.Next.{Next}
 use Rattle.lex.specs.declared.lex.Next.the-variants as next
 use Rattle.lex.specs.declared.lex.Cursor.{Cursor}
-use Rattle.lex.specs.declared.lex.Lexed.{Lexed}
 use Rattle.lex.specs.Lexer.{nextOf, peekOf}
 use Rattle.reading.specs.declared.Event.{Event}
 use Rattle.reading.specs.declared.Sort.{Sort}
@@ -18,7 +16,6 @@ use Rattle.reading.specs.declared.Opens.{Opens}
 use Rattle.reading.specs.declared.Opens.the-variants as opens
 use Rattle.reading.specs.declared.Marks.{Marks}
 use Rattle.reading.specs.declared.Pair.{Pair}
-use Rattle.reading.specs.declared.Target.{Target}
 use Rattle.reading.specs.declared.Role.{Role}
 use Rattle.reading.specs.declared.Role.the-variants as role
 use Rattle.reading.specs.declared.DelimEventKind.{DelimEventKind}
@@ -26,7 +23,7 @@ use Rattle.reading.specs.declared.DelimEventKind.the-variants as makes
 use Rattle.reading.specs.Events.{event, nowhere, becomes, becomes-to, enter, exit, str}
 use Rattle.reading.specs.Machine.{View, Sheet, State, Turn, Here, amend, prev, puts, put, no-str, with-openers, with-queue}
 use Rattle.reading.specs.Tokens.{role-of, closed-by, two-way, may-be-empty, is-single, unclosed, closing-of, link-sort}
-use Rattle.reading.specs.Labels.{Label, Shelved, label-of, shelved}
+use Rattle.reading.specs.Labels.{Shelved, label-of, shelved}
 use Rattle.reading.specs.Verbatim.{nothing}
 
 -- the newest opener that a mark closes, with the older ones below it

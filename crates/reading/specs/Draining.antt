@@ -1,7 +1,7 @@
 -- Draining (document 01, "Draining"): touching Str events become one; empty ones vanish.
 use Prim.Native.Nat.{ℕ}
 use mathlib.Core.List.{List, [], _∷_}
-use mathlib.Core.Bool.{true, false, _&&_}
+use mathlib.Core.Bool.{true, false}
 use lib.Dec.{eqb}
 use Rattle.reading.specs.declared.Event.{Event}
 use Rattle.reading.specs.Events.{event, str}

@@ -4,7 +4,7 @@ use Prim.Native.Char.{code}
 use mathlib.Core.List.{List, [], _∷_, _++_}
 use mathlib.Core.Bool.{Bool, true, false, not, _&&_}
 use lib.Dec.{ltb, eqb}
-use lib.ListN.{length, getD, take, drop}
+use lib.ListN.{getD, take, drop}
 use Rattle.lex.specs.declared.lex.Cursor.{Cursor}
 use Rattle.reading.specs.declared.Line.{Line}
 use Rattle.reading.specs.declared.Event.{Event}

@@ -1,12 +1,11 @@
 -- Questions asked of a sheet, in order, and what every room holds afterwards (document 01, "Questions asked of a sheet, in order").
-use Prim.Native.Nat.{ℕ, zero, suc, _+_, _-_, _*_, _/_}
+use Prim.Native.Nat.{ℕ, suc, _+_, _-_, _*_, _/_}
 use mathlib.Core.Path.{_≡_}
-use mathlib.Core.List.{List, [], _∷_, _++_, map}
-use mathlib.Core.Bool.{Bool, true, false, not, _&&_, _||_}
-use lib.Dec.{leb, ltb, eqb}
+use mathlib.Core.List.{List, [], _∷_, _++_}
+use mathlib.Core.Bool.{Bool, true, false, _&&_}
+use lib.Dec.{leb, ltb}
 use lib.ListN.{length, replicate}
 use Rattle.reading.specs.declared.Line.{Line}
-use Rattle.reading.specs.declared.Place.{Place}
 use Rattle.reading.specs.declared.Event.{Event}
 use Rattle.reading.specs.declared.Refused.{Refused}
 use Rattle.reading.specs.declared.Refused.the-variants as refused

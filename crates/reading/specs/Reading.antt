@@ -2,7 +2,7 @@
 -- `parse_event`.
 use Prim.Native.Nat.{ℕ, zero, suc, _+_, _-_}
 use mathlib.Core.List.{List, [], _∷_, _++_, map}
-use mathlib.Core.Bool.{Bool, true, false}
+use mathlib.Core.Bool.{true, false}
 use lib.Dec.{leb, ltb}
 use lib.ListN.{length, take, drop}
 use Rattle.lex.specs.declared.lex.Token.{Token}
@@ -23,7 +23,7 @@ use Rattle.reading.specs.declared.Inside.the-variants as inside
 use Rattle.reading.specs.declared.Refused.{Refused}
 use Rattle.reading.specs.declared.Refused.the-variants as refused
 use Rattle.reading.specs.Events.{place, str, symbol, footnote}
-use Rattle.reading.specs.Machine.{View, Rules, Sheet, State, Turn, Here, viewOf, rulesOf, puts, put, no-str}
+use Rattle.reading.specs.Machine.{View, Sheet, State, Turn, Here, viewOf, rulesOf, puts, put, no-str}
 use Rattle.reading.specs.Tokens.{role-of, is-caret, plain, bracket}
 use Rattle.reading.specs.Atoms.{dashes, dots, autolinked, named}
 use Rattle.reading.specs.Verbatim.{opens-verbatim, in-verbatim, drops-at, moved-on, flag-of, ended-at}

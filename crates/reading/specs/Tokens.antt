@@ -1,7 +1,7 @@
 -- What a token and an opener are to the rules on verbatim and containers (document 01, "Verbatim" and "Containers"): the tables of the
 -- Rust's `Opener::from_token`, `Opener::closed_by`, `bidirectional` and `DelimEventKind::from`.
 use Prim.Native.Nat.{ℕ}
-use mathlib.Core.List.{List, [], _∷_}
+use mathlib.Core.List.{[], _∷_}
 use mathlib.Core.Bool.{Bool, true, false}
 use lib.Dec.{leb, eqb}
 use Rattle.classes.specs.Classes.{among}

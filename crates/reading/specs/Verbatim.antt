@@ -2,14 +2,13 @@
 use Prim.Native.Nat.{ℕ, suc, _+_, _-_}
 use mathlib.Core.List.{List, [], _∷_, _++_, map}
 use mathlib.Core.Bool.{Bool, true, false, not, _&&_}
-use lib.Dec.{leb, eqb}
+use lib.Dec.{eqb}
 use lib.ListN.{length, getD, take, drop}
 use Rattle.classes.specs.Classes.{blank}
 use Rattle.lex.specs.declared.lex.Token.{Token}
 use Rattle.lex.specs.declared.lex.Next.{Next}
 use Rattle.lex.specs.declared.lex.Next.the-variants as next
 use Rattle.lex.specs.declared.lex.Cursor.{Cursor}
-use Rattle.lex.specs.declared.lex.Lexed.{Lexed}
 use Rattle.lex.specs.Lexer.{freshOf, peekOf}
 use Rattle.scan.specs.declared.Ahead.{Ahead}
 use Rattle.scan.specs.declared.Ahead.the-variants as ahead
@@ -20,8 +19,8 @@ use Rattle.reading.specs.declared.Inside.{Inside}
 use Rattle.reading.specs.declared.Inside.the-variants as inside
 use Rattle.reading.specs.declared.Last.{Last}
 use Rattle.reading.specs.declared.Line.{Line}
-use Rattle.reading.specs.Events.{event, homed, in-text, becomes, shorter, exit-of, enter, str, verbatim, raw-format, inline-math, display-math}
-use Rattle.reading.specs.Machine.{View, Rules, Sheet, State, Turn, Here, amend, amend-last, puts, put, no-str, with-queue, with-inside}
+use Rattle.reading.specs.Events.{event, in-text, becomes, shorter, exit-of, enter, str, verbatim, raw-format, inline-math, display-math}
+use Rattle.reading.specs.Machine.{View, Rules, State, Turn, Here, amend, amend-last, put, no-str, with-queue, with-inside}
 use Rattle.reading.specs.Tokens.{role-of, is-run, is-format}
 
 -- the lexer in verbatim, or out of it
