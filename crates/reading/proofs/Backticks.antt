@@ -49,8 +49,8 @@ Shows text v = (j : ℕ) → j < length (v .bytes) → getD (v .bytes) j 0 ≡ g
 taken-ends : (l : Last) (at : ℕ) (q : List Event) → LastOk l q → (taken l at ≡ 0) ⊎ Ends (taken l at) at q
 unfolding taken
 taken-ends l at q ok =
-    choose (λ (n : ℕ). (n ≡ 0) ⊎ Ends n at q) (eqb (l .end) at) _ _
-    (λ e. subst (λ (j : ℕ). (l .dollars ≡ 0) ⊎ Ends (l .dollars) j q) (eqb-true (l .end) at e) ok)
+    choose (λ (n : ℕ). (n ≡ 0) ⊎ Ends n at q) (eqb (l .end .0) at) _ _
+    (λ e. subst (λ (j : ℕ). (l .dollars ≡ 0) ⊎ Ends (l .dollars) j q) (eqb-true (l .end .0) at e) ok)
     (λ e. inl refl)
 
 -- the enter of a run, and its exit
@@ -75,16 +75,18 @@ module _ (Loose : ℕ → Type 0) (text : List ℕ) where
   module _ (v : View) (m : ℕ) (h : Here) (k : HereOk v h) (s : State) (g : Out Loose text (v .base + h .from) (m + h .from) s) where
     shortened : (n : ℕ) → (n ≡ 0) ⊎ Ends n (v .base + h .from) (s .queue)
         → Covers Loose 0 (amend-last (shorter n) (s .queue)) (v .base + h .from - n) × (v .base + h .from - n ≤ v .base + h .to)
-    shortened n (inl z) =
-        (subst (λ (j : ℕ). Covers Loose 0 (amend-last (shorter j) (s .queue)) (v .base + h .from - j)) (sym z)
-        (subst (λ (j : ℕ). Covers Loose 0 (amend-last (shorter 0) (s .queue)) j) (omega arith) (covers-same Loose 0 (s .queue) (v .base + h .from) (g .covers))),
-        omega (arith, k .long))
-    shortened n (inr e) =
-        (subst (λ (q : List Event). Covers Loose 0 (amend-last (shorter n) q) (v .base + h .from - n)) (sym (e .parted))
-        (subst (λ (q : List Event). Covers Loose 0 q (v .base + h .from - n)) (sym (amend-last-at (shorter n) (e .front) (e .it)))
-        (covers-shorter Loose n 0 (e .front) (e .it) (v .base + h .from) (e .wide) (e .ends)
-        (subst (λ (q : List Event). Covers Loose 0 q (v .base + h .from)) (e .parted) (g .covers)))),
-        omega (arith, k .long))
+    shortened n (inl z) = (
+      subst (λ (j : ℕ). Covers Loose 0 (amend-last (shorter j) (s .queue)) (v .base + h .from - j)) (sym z)
+          (subst (λ (j : ℕ). Covers Loose 0 (amend-last (shorter 0) (s .queue)) j) (omega arith) (covers-same Loose 0 (s .queue) (v .base + h .from) (g .covers))),
+      omega (arith, k .long),
+    )
+    shortened n (inr e) = (
+      subst (λ (q : List Event). Covers Loose 0 (amend-last (shorter n) q) (v .base + h .from - n)) (sym (e .parted))
+          (subst (λ (q : List Event). Covers Loose 0 q (v .base + h .from - n)) (sym (amend-last-at (shorter n) (e .front) (e .it)))
+          (covers-shorter Loose n 0 (e .front) (e .it) (v .base + h .from) (e .wide) (e .ends)
+          (subst (λ (q : List Event). Covers Loose 0 q (v .base + h .from)) (e .parted) (g .covers)))),
+      omega (arith, k .long),
+    )
 
     pub opens-fine : Fine Loose text v m (suc (h .from)) (opens-verbatim v h s)
     unfolding GoodBy

@@ -31,17 +31,18 @@ flushed-none a es = rw (eq-eqb a a refl, flushed)
 drained-few : (a b : ℕ) (es : List Event) → (length (drained a b es) ≤ suc (length es)) × (length (drained b b es) ≤ length es)
 unfolding drained
 drained-few a b [] = (flushed-few a b [], rw (flushed-none b []) (omega arith))
-drained-few a b (e ∷ es) =
-    (choose (λ (l : List Event). length l ≤ suc (suc (length es))) (eqb (e .kind) str) _ _
-    (λ x. choose (λ (l : List Event). length l ≤ suc (suc (length es))) (eqb b (e .start .0)) _ _
-    (λ y. omega (arith, drained-few a (e .end .0) es .0))
-    (λ y. omega (arith, flushed-few a b (drained (e .start .0) (e .end .0) es), drained-few (e .start .0) (e .end .0) es .0)))
-    (λ x. omega (arith, flushed-few a b (e ∷ drained (e .end .0) (e .end .0) es), drained-few 0 (e .end .0) es .1)),
-    choose (λ (l : List Event). length l ≤ suc (length es)) (eqb (e .kind) str) _ _
-    (λ x. choose (λ (l : List Event). length l ≤ suc (length es)) (eqb b (e .start .0)) _ _
-    (λ y. drained-few b (e .end .0) es .0)
-    (λ y. rw (flushed-none b (drained (e .start .0) (e .end .0) es)) (drained-few (e .start .0) (e .end .0) es .0)))
-    (λ x. rw (flushed-none b (e ∷ drained (e .end .0) (e .end .0) es)) (omega (arith, drained-few 0 (e .end .0) es .1))))
+drained-few a b (e ∷ es) = (
+  choose (λ (l : List Event). length l ≤ suc (suc (length es))) (eqb (e .kind) str) _ _
+      (λ x. choose (λ (l : List Event). length l ≤ suc (suc (length es))) (eqb b (e .start .0)) _ _
+      (λ y. omega (arith, drained-few a (e .end .0) es .0))
+      (λ y. omega (arith, flushed-few a b (drained (e .start .0) (e .end .0) es), drained-few (e .start .0) (e .end .0) es .0)))
+      (λ x. omega (arith, flushed-few a b (e ∷ drained (e .end .0) (e .end .0) es), drained-few 0 (e .end .0) es .1)),
+  choose (λ (l : List Event). length l ≤ suc (length es)) (eqb (e .kind) str) _ _
+      (λ x. choose (λ (l : List Event). length l ≤ suc (length es)) (eqb b (e .start .0)) _ _
+      (λ y. drained-few b (e .end .0) es .0)
+      (λ y. rw (flushed-none b (drained (e .start .0) (e .end .0) es)) (drained-few (e .start .0) (e .end .0) es .0)))
+      (λ x. rw (flushed-none b (e ∷ drained (e .end .0) (e .end .0) es)) (omega (arith, drained-few 0 (e .end .0) es .1))),
+)
 
 -- the same matches
 kept-walk : (w : Walk) (a b : List Walk) (ts : List Tag) → ((us : List Tag) → Matches a us → Matches b us) → Matches (w ∷ a) ts → Matches (w ∷ b) ts

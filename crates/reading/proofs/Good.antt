@@ -44,7 +44,7 @@ pub record Ends (n at : ℕ) (q : List Event) : Type 0 where
   pub ends : it .end .0 ≡ at
 
 abbrev pub LastOk : Last → List Event → Type 0
-LastOk l q = (l .dollars ≡ 0) ⊎ Ends (l .dollars) (l .end) q
+LastOk l q = (l .dollars ≡ 0) ⊎ Ends (l .dollars) (l .end .0) q
 
 pub last-put : (v : View) (kind i j : ℕ) (q : List Event) → i ≤ j → LastOk (lastOf v kind i j) (q ++ event kind (v .base + i) (v .base + j) ∷ [])
 unfolding lastOf

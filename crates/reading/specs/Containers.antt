@@ -20,7 +20,7 @@ use Rattle.reading.specs.declared.Role.{Role}
 use Rattle.reading.specs.declared.Role.the-variants as role
 use Rattle.reading.specs.declared.DelimEventKind.{DelimEventKind}
 use Rattle.reading.specs.declared.DelimEventKind.the-variants as makes
-use Rattle.reading.specs.Events.{event, nowhere, becomes, becomes-to, enter, exit, str}
+use Rattle.reading.specs.Events.{link, event, nowhere, becomes, becomes-to, enter, exit, str}
 use Rattle.reading.specs.Machine.{View, Sheet, State, Turn, Here, amend, prev, puts, put, no-str, with-openers, with-queue}
 use Rattle.reading.specs.Tokens.{role-of, closed-by, two-way, may-be-empty, is-single, unclosed, closing-of, link-sort}
 use Rattle.reading.specs.Labels.{Shelved, label-of, shelved}
@@ -97,7 +97,7 @@ closes-link k l v h o s =
       last = no-str;
       labels = l .labels;
       fits = l .fits;
-      links = suc (s .links);
+      links = link (suc (s .links .0));
       refused = s .refused;
     }
 

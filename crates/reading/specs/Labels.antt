@@ -5,8 +5,9 @@ use mathlib.Core.List.{List, [], _∷_, _++_}
 use mathlib.Core.Bool.{Bool, true, false, not, _&&_, _||_}
 use lib.Dec.{leb, ltb, eqb}
 use lib.ListN.{length, take, drop}
+use Rattle.reading.specs.declared.Link.{Link}
 use Rattle.reading.specs.declared.Event.{Event}
-use Rattle.reading.specs.Events.{Home, place, link, escape, softbreak, hardbreak}
+use Rattle.reading.specs.Events.{Home, place, escape, softbreak, hardbreak}
 
 -- the bytes of the text from a place to another
 abbrev pub part : List ℕ → ℕ → ℕ → List ℕ
@@ -73,15 +74,15 @@ pub record Shelved : Type 0 where
   pub fits : Bool
 
 -- link number n gets its home. A label that does not fit is not written, nor any later one; the reading goes on
-unfoldable pub shelved : ℕ → ℕ → List ℕ → Bool → Label → Shelved
+unfoldable pub shelved : ℕ → Link → List ℕ → Bool → Label → Shelved
 shelved room n labels fits (here a b) =
-    record { home = record { home = 1; start = place a; end = place b; link = link n }; labels = labels; fits = fits }
+    record { home = record { home = 1; start = place a; end = place b; link = n }; labels = labels; fits = fits }
 shelved room n labels fits (built bs) =
     elim (fits && leb (length labels + length bs) room) [
       | true ↦ record {
-        home = record { home = 2; start = place (length labels); end = place (length labels + length bs); link = link n };
+        home = record { home = 2; start = place (length labels); end = place (length labels + length bs); link = n };
         labels = labels ++ bs;
         fits = true;
       }
-      | false ↦ record { home = record { home = 0; start = place 0; end = place 0; link = link n }; labels = labels; fits = false }
+      | false ↦ record { home = record { home = 0; start = place 0; end = place 0; link = n }; labels = labels; fits = false }
     ]

@@ -7,12 +7,13 @@ use lib.Dec.{ltb, eqb}
 use lib.ListN.{getD, take, drop}
 use Rattle.lex.specs.declared.lex.Cursor.{Cursor}
 use Rattle.reading.specs.declared.Line.{Line}
+use Rattle.reading.specs.declared.Link.{Link}
 use Rattle.reading.specs.declared.Event.{Event}
 use Rattle.reading.specs.declared.Opener.{Opener}
 use Rattle.reading.specs.declared.Inside.{Inside}
 use Rattle.reading.specs.declared.Last.{Last}
 use Rattle.reading.specs.declared.Refused.{Refused}
-use Rattle.reading.specs.Events.{event, str}
+use Rattle.reading.specs.Events.{place, event, str}
 
 -- a line as the reading sees it: where it starts, the byte before it (0 at the text's start), and its bytes
 pub record View : Type 0 where
@@ -52,7 +53,7 @@ pub record Sheet : Type 0 where
   pub room : ℕ
 
 -- the state: events, the oldest first; openers, the newest first; the open verbatim; the newest event; the label bytes built, and whether
--- all of them fitted; how many links have closed; the first bare brace
+-- all of them fitted; the number of the next link that closes; the first bare brace
 pub record State : Type 0 where
   pub queue : List Event
   pub openers : List Opener
@@ -60,7 +61,7 @@ pub record State : Type 0 where
   pub last : Last
   pub labels : List ℕ
   pub fits : Bool
-  pub links : ℕ
+  pub links : Link
   pub refused : Refused
 
 -- the state and the lexer's cursor, between two tokens
@@ -99,12 +100,12 @@ dollarsOf v i j =
     ]
 
 abbrev pub no-str : Last
-no-str = record { str = false; end = 0; dollars = 0 }
+no-str = record { str = false; end = place 0; dollars = 0 }
 
 -- what is noted of an event of a kind from the i-th byte to before the j-th
 unfoldable pub lastOf : View → ℕ → ℕ → ℕ → Last
 lastOf v kind i j =
-    elim (eqb kind str) [ true ↦ record { str = true; end = v .base + j; dollars = dollarsOf v i j } | false ↦ no-str ]
+    elim (eqb kind str) [ true ↦ record { str = true; end = place (v .base + j); dollars = dollarsOf v i j } | false ↦ no-str ]
 
 -- events behind the queue, and what is noted of the last
 abbrev pub puts : List Event → Last → State → State

@@ -22,7 +22,7 @@ use Rattle.reading.specs.declared.Inside.{Inside}
 use Rattle.reading.specs.declared.Inside.the-variants as inside
 use Rattle.reading.specs.declared.Refused.{Refused}
 use Rattle.reading.specs.declared.Refused.the-variants as refused
-use Rattle.reading.specs.Events.{place, str, symbol, footnote}
+use Rattle.reading.specs.Events.{place, link, str, symbol, footnote}
 use Rattle.reading.specs.Machine.{View, Sheet, State, Turn, Here, viewOf, rulesOf, puts, put, no-str}
 use Rattle.reading.specs.Tokens.{role-of, is-caret, plain, bracket}
 use Rattle.reading.specs.Atoms.{dashes, dots, autolinked, named}
@@ -147,7 +147,7 @@ start =
       last = no-str;
       labels = [];
       fits = true;
-      links = 0;
+      links = link 0;
       refused = refused.No;
     }
 

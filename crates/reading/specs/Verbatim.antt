@@ -29,7 +29,7 @@ flagged b c = record { pos = c .pos; escape = c .escape; next = c .next; verbati
 
 -- how many dollars the run that begins at a place takes: those at the end of a Str that ends there
 unfoldable pub taken : Last → ℕ → ℕ
-taken l at = elim (eqb (l .end) at) [ true ↦ l .dollars | false ↦ 0 ]
+taken l at = elim (eqb (l .end .0) at) [ true ↦ l .dollars | false ↦ 0 ]
 
 -- none: verbatim; one: inline math; two: display math
 unfoldable pub opened-as : ℕ → ℕ

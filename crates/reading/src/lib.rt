@@ -118,7 +118,7 @@ pub enum Inside {
 // The newest event: whether it is a Str, its end, and how many dollars a backtick run right behind it would take.
 pub struct Last {
     pub str: bool,
-    pub end: u32,
+    pub end: Place,
     pub dollars: u32,
 }
 
