@@ -1,6 +1,6 @@
--- Whoever lends N + 1 event records is never refused for event room.
+-- The answer: whoever lends N + 1 event records is never refused for event room, and demand 3 holds of every accepted sheet.
 use Prim.Native.Nat.{ℕ, _+_, _*_, _/_, _≤_}
-use mathlib.Core.Path.{_≡_, refl, sym, ap, _∙_}
+use mathlib.Core.Path.{_≡_, refl}
 use mathlib.Core.List.{List}
 use mathlib.Core.Bool.{Bool, true, false, _&&_}
 use native.Mathlib.Omega.{arith}
@@ -10,43 +10,68 @@ use lib.ListN.{length}
 use Rattle.reading.specs.declared.Line.{Line}
 use Rattle.reading.specs.declared.Refused.{Refused}
 use Rattle.reading.specs.declared.Refused.the-variants as refused
-use Rattle.reading.specs.Machine.{State}
+use Rattle.reading.specs.Machine.{Sheet, State}
 use Rattle.reading.specs.Reading.{sheet, read}
 use Rattle.reading.specs.Draining.{drain}
-use Rattle.reading.specs.Questions.{Rooms, Outcome, Fed, total, first-outside, first-early, label-room, handed-out, judged, outcome}
+use Rattle.reading.specs.Questions.{Rooms, Outcome, Fed, total, first-outside, first-early, label-room, refuses, cleared, handed-out, judged, outcome}
+use Rattle.reading.specs.Walked.{Accepted}
 use Rattle.reading.proofs.Choose.{choose}
-use Rattle.reading.proofs.Theorems.{room}
+use Rattle.reading.proofs.Theorems.{room, whole}
 
--- an outcome that is not 9
-abbrev Other : Outcome → Type 0
-Other o = o .answer .code ≡ 9 → ⊥
+module _ (text : List ℕ) (ls : List Line) (reading : ℕ) (rooms : Rooms) where
+  abbrev x : Sheet
+  x = sheet text reading (label-room (rooms .labels))
 
-module _ (text : List ℕ) (ls : List Line) (reading : ℕ) (rooms : Rooms) (lent : total ls + 1 ≤ length (rooms .events) / 7) where
-  handed : (s : State) → length (drain (s .queue)) ≤ total ls + 1 → handed-out (drain (s .queue)) (s .labels) rooms .answer .code ≡ 9 → ⊥
-  unfolding handed-out
-  handed s l e = let z = rw (le-leb (length (drain (s .queue))) (length (rooms .events) / 7) (omega arith), handed-out) at e in omega (arith, z)
-
-  asked : Fed text ls → (s : State) → s ≡ read (sheet text reading (label-room (rooms .labels))) ls → (r : Refused) → s .refused ≡ r → (f : Bool)
-      → judged r f s rooms .answer .code ≡ 9 → ⊥
-  unfolding judged
-  asked fed s is (refused.At p) e f h = omega (arith, h)
-  asked fed s is refused.No e false h = omega (arith, h)
-  asked fed s is refused.No e true h =
-      handed s (rw is (room (sheet text reading (label-room (rooms .labels))) ls fed (sym (ap (λ (y : State). y .refused) is) ∙ e))) h
-
-  pub never-nine : outcome text ls reading rooms .answer .code ≡ 9 → ⊥
+  -- the questions: what holds of a refusal under 1 to 6, and of what comes of lines that pass 3 and 4, holds of the outcome
+  pub asks : (P : Outcome → Type 0) → ((code at : ℕ) → 1 ≤ code → code ≤ 6 → P (refuses code at rooms))
+      → (Fed text ls → P (judged (read x ls .refused) (read x ls .fits) (read x ls) rooms)) → P (outcome text ls reading rooms)
   unfolding outcome
-  never-nine =
-      choose Other (leb reading 1) _ _
-      (λ a. choose Other (leb (length text) 1048576 && leb (length ls) 1048576) _ _
-      (λ b. choose Other (ltb (first-outside text ls) (length ls)) _ _
-      (λ c e. omega (arith, e))
-      (λ c. choose Other (ltb (first-early 0 ls) (length ls)) _ _
-      (λ d e. omega (arith, e))
-      (λ d. choose Other (leb (2 * total ls + 1) (length (rooms .queue) / 8)) _ _
-      (λ f. choose Other (leb (total ls) (length (rooms .openers) / 4)) _ _
-      (λ g. asked (record { inside = c; apart = d }) (read (sheet text reading (label-room (rooms .labels))) ls) refl _ refl _)
-      (λ g e. omega (arith, e)))
-      (λ f e. omega (arith, e)))))
-      (λ b e. omega (arith, e)))
-      (λ a e. omega (arith, e))
+  asks P early late =
+      choose P (leb reading 1) _ _
+      (λ a. choose P (leb (length text) 1048576 && leb (length ls) 1048576) _ _
+      (λ b. choose P (ltb (first-outside text ls) (length ls)) _ _
+      (λ c. early 3 (first-outside text ls) (omega arith) (omega arith))
+      (λ c. choose P (ltb (first-early 0 ls) (length ls)) _ _
+      (λ d. early 4 (first-early 0 ls) (omega arith) (omega arith))
+      (λ d. choose P (leb (2 * total ls + 1) (length (rooms .queue) / 8)) _ _
+      (λ f. choose P (leb (total ls) (length (rooms .openers) / 4)) _ _
+      (λ g. late (record { inside = c; apart = d }))
+      (λ g. early 6 0 (omega arith) (omega arith)))
+      (λ f. early 5 0 (omega arith) (omega arith)))))
+      (λ b. early 2 0 (omega arith) (omega arith)))
+      (λ a. early 1 0 (omega arith) (omega arith))
+
+  -- 7 and 8 are refusals too; behind them the list is handed out
+  judges : (P : Outcome → Type 0) → ((code at : ℕ) → 1 ≤ code → code ≤ 8 → P (refuses code at (cleared rooms)))
+      → (r : Refused) (f : Bool) (s : State) → (r ≡ refused.No → P (handed-out (drain (s .queue)) (s .labels) rooms)) → P (judged r f s rooms)
+  unfolding judged
+  judges P early (refused.At p) f s late = early 7 (p .0) (omega arith) (omega arith)
+  judges P early refused.No false s late = early 8 0 (omega arith) (omega arith)
+  judges P early refused.No true s late = late refl
+
+  -- whoever lends N + 1 event records is never refused for event room
+  pub never-nine : total ls + 1 ≤ length (rooms .events) / 7 → outcome text ls reading rooms .answer .code ≡ 9 → ⊥
+  unfolding handed-out
+  never-nine lent =
+      asks Other (λ code at l u e. omega (arith, e, u))
+      (λ fed. judges Other (λ code at l u e. omega (arith, e, u)) (read x ls .refused) (read x ls .fits) (read x ls)
+      (λ r e.
+      let z = rw (le-leb (length (drain (read x ls .queue))) (length (rooms .events) / 7) (omega (arith, lent, room x ls fed r)), handed-out) at e in
+      omega (arith, z)))
+    where
+      Other : Outcome → Type 0
+      Other o = o .answer .code ≡ 9 → ⊥
+
+  -- demand 3 of every accepted sheet
+  pub accepted : outcome text ls reading rooms .answer .code ≡ 0 → Accepted text ls reading rooms (outcome text ls reading rooms)
+  unfolding handed-out
+  accepted =
+      asks Claim (λ code at l u e. absurd (omega (arith, e, l)))
+      (λ fed. judges Claim (λ code at l u e. absurd (omega (arith, e, l))) (read x ls .refused) (read x ls .fits) (read x ls)
+      (λ r.
+      choose Claim (leb (length (drain (read x ls .queue))) (length (rooms .events) / 7)) _ _
+      (λ b e. record { whole = whole x ls fed r; count = refl; handed = refl })
+      (λ b e. absurd (omega (arith, e)))))
+    where
+      Claim : Outcome → Type 0
+      Claim o = o .answer .code ≡ 0 → Accepted text ls reading rooms o

@@ -216,7 +216,7 @@ module _ (x : Sheet) where
         (e .0, rw (e .1) (omega (arith, k .opens)))
 
   -- any count of steps that is large enough gives the same: at the line's end a step changes nothing
-  step-end : (v : View) (a : Turn) → Sound (v .bytes) (a .cursor) → (a .state .refused ≡ refused.No → length (v .bytes) ≤ a .cursor .pos) → step x v a ≡ a
+  pub step-end : (v : View) (a : Turn) → Sound (v .bytes) (a .cursor) → (a .state .refused ≡ refused.No → length (v .bytes) ≤ a .cursor .pos) → step x v a ≡ a
   unfolding unless-refused on-token
   step-end v a so far = go (a .state .refused) refl
     where
@@ -229,12 +229,12 @@ module _ (x : Sheet) where
       go (refused.At p) e = refl
       go refused.No e = on (nextOf (v .bytes) (a .cursor) .token) refl (far e)
 
-  steps-still : (k : ℕ) (v : View) (a : Turn) → step x v a ≡ a → steps k x v a ≡ a
+  pub steps-still : (k : ℕ) (v : View) (a : Turn) → step x v a ≡ a → steps k x v a ≡ a
   unfolding steps
   steps-still zero v a e = refl
   steps-still (suc k) v a e = ap (λ (b : Turn). steps k x v b) e ∙ steps-still k v a e
 
-  steps-more : (n k : ℕ) (v : View) (a : Turn) → steps (n + k) x v a ≡ steps k x v (steps n x v a)
+  pub steps-more : (n k : ℕ) (v : View) (a : Turn) → steps (n + k) x v a ≡ steps k x v (steps n x v a)
   unfolding steps
   steps-more zero k v a = ap (λ (j : ℕ). steps j x v a) (zero-add k)
   steps-more (suc n) k v a = ap (λ (j : ℕ). steps j x v a) (suc-add n k) ∙ steps-more n k v (step x v a)

@@ -11,9 +11,9 @@ use Rattle.reading.specs.declared.Line.{Line}
 use Rattle.reading.specs.declared.Event.{Event}
 use Rattle.reading.specs.Events.{Home, homeOf}
 use Rattle.reading.specs.Machine.{Sheet}
-use Rattle.reading.specs.Reading.{read, dropped}
+use Rattle.reading.specs.Reading.{sheet, read, dropped}
 use Rattle.reading.specs.Draining.{drain}
-use Rattle.reading.specs.Questions.{total}
+use Rattle.reading.specs.Questions.{Rooms, Outcome, total, numbers, filled, label-room}
 
 -- what an exit and an enter must agree in: k, home, home start, home end and link number
 pub record Tag : Type 0 where
@@ -79,3 +79,9 @@ pub record Whole (x : Sheet) (ls : List Line) : Type 0 where
   pub covered : Covered ls (dropped x ls) (events x ls)
   pub blanks : (i : ℕ) → Of (dropped x ls) i → blank (getD (x .text) i 0) ≡ true
   pub room : length (events x ls) ≤ total ls + 1
+
+-- an accepted sheet: the events handed out are that list, and demand 3 holds of it
+pub record Accepted (text : List ℕ) (ls : List Line) (reading : ℕ) (rooms : Rooms) (o : Outcome) : Type 0 where
+  pub whole : Whole (sheet text reading (label-room (rooms .labels))) ls
+  pub count : o .answer .events ≡ length (events (sheet text reading (label-room (rooms .labels))) ls)
+  pub handed : o .rooms .events ≡ filled (numbers (events (sheet text reading (label-room (rooms .labels))) ls)) (rooms .events)
