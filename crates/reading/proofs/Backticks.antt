@@ -36,7 +36,7 @@ use Rattle.reading.specs.Walked.{walk-by, Of}
 use Rattle.reading.proofs.Choose.{choose, choose₂}
 use Rattle.reading.proofs.Matching.{Wraps, wraps-match, Parts}
 use Rattle.reading.proofs.Spans.{Covers, covers-append, covers-after, covers-amend, covers-cut, covers-same, covers-shorter, covers-one}
-use Rattle.reading.proofs.Spans.{amend-last-at, length-amend, length-amend-last}
+use Rattle.reading.proofs.Spans.{amend-last-at, length-amend, length-amend-last, take-few}
 use Rattle.reading.proofs.Queue.{walks, Inner, inner-put, inner-amend, inner-exit, inner-open}
 use Rattle.reading.proofs.Good.{Out, In, Good, GoodBy, Ends, LastOk, Blank, walk-neither}
 use Rattle.reading.proofs.Places.{HereOk, Fine, fine-at, sound-flagged, peek-sound, peek-place}
@@ -136,11 +136,6 @@ unfolding Of
 of-append [] b i o = inr o
 of-append (e ∷ a) b i (inl x) = inl (inl x)
 of-append (e ∷ a) b i (inr o) = ⊎-elim (λ (x : Of (map span-of a) i). inl (inr x)) (λ (x : Of (map span-of b) i). inr x) (of-append a b i o)
-
-take-few : (n : ℕ) (l : List Event) → length (take n l) ≤ length l
-take-few zero l = omega arith
-take-few (suc n) [] = omega arith
-take-few (suc n) (e ∷ l) = omega (arith, take-few n l)
 
 raw-wraps : (h : Home) → Wraps (walk-by (enter raw-format) h) (walk-by (enter raw-format + 32) h)
 unfolding walk-by

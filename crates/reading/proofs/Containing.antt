@@ -26,22 +26,17 @@ use Rattle.reading.specs.Events.{event, nowhere, becomes, becomes-to, en
 use Rattle.reading.specs.Machine.{View, Sheet, State, Here, amend, put, with-openers}
 use Rattle.reading.specs.Tokens.{role-of, unclosed, closing-of, link-sort}
 use Rattle.reading.specs.Labels.{Shelved}
-use Rattle.reading.specs.Containers.{Taken, taken, left, seek, may-close, closes-pair, takes, span-with, closes-span, labelled, closes-link}
+use Rattle.reading.specs.Containers.{Along, along, by-itself, seek, may-close, closes-pair, takes, span-with, closes-span, labelled, closes-link}
 use Rattle.reading.specs.Containers.{close-as, may-open, open-as, opens-or, tried, container}
 use Rattle.reading.specs.Walked.{Walk, neither, walk-by, walk-of}
 use Rattle.reading.proofs.Choose.{choose}
 use Rattle.reading.proofs.Matching.{Wraps, Top, LinkTop, TopBy, Parts, parts-drop}
-use Rattle.reading.proofs.Spans.{Covers, covers-append, covers-amend, covers-to, covers-one, length-amend}
+use Rattle.reading.proofs.Spans.{Covers, covers-append, covers-amend, covers-to, covers-one, length-amend, take-few}
 use Rattle.reading.proofs.Queue.{walks, walks-append, walks-take, walks-amend, parts-seek, seek-few, top-close, link-close, parts-close}
 use Rattle.reading.proofs.Queue.{Single, parts-open, parts-link}
 use Rattle.reading.proofs.Good.{Out, Good, GoodBy, out-put, out-openers, walk-neither}
 use Rattle.reading.proofs.Tables.{KindOk, closing-ok, unclosed-low, link-not-single, OpensOk, MarksOk}
 use Rattle.reading.proofs.Places.{HereOk, Fine, fine-at, peek-sound, peek-place, peeked-taken}
-
-take-few : (n : ℕ) (l : List Event) → length (take n l) ≤ length l
-take-few zero l = omega arith
-take-few (suc n) [] = omega arith
-take-few (suc n) (e ∷ l) = omega (arith, take-few n l)
 
 module _ (Loose : ℕ → Type 0) (text : List ℕ) where
   pub good-out : (at n : ℕ) (s : State) → s .inside ≡ inside.No → Out Loose text at n s → Good Loose text at n s
@@ -209,9 +204,9 @@ module _ (Loose : ℕ → Type 0) (text : List ℕ) where
       span-fine image top c next.None e so n = fine-at Loose text v m (suc (h .from)) (h .to) (omega (arith, k .long)) c _ so e (good-out _ _ _ no left-then)
       span-fine image top c (next.Some t) e so n = go (takes (role-of (t .kind)))
         where
-          go : (b : Taken) → Fine Loose text v m (suc (h .from)) (span-with v h image o c (t .len) b rest)
-          go left = fine-at Loose text v m (suc (h .from)) (h .to) (omega (arith, k .long)) c _ so e (good-out _ _ _ no left-then)
-          go (taken inline) =
+          go : (b : Along) → Fine Loose text v m (suc (h .from)) (span-with v h image o c (t .len) b rest)
+          go by-itself = fine-at Loose text v m (suc (h .from)) (h .to) (omega (arith, k .long)) c _ so e (good-out _ _ _ no left-then)
+          go (along inline) =
               let u = peeked-taken (v .bytes) c t so n in
               fine-at Loose text v m (suc (h .from)) (h .to + t .len) (omega (arith, k .long)) _ _ (u .sound) (u .place ∙ ap (λ (j : ℕ). j + t .len) e)
               (good-out _ _ _ no (taken-then image inline (t .len) (u .long) top))

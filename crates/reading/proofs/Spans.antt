@@ -138,3 +138,8 @@ unfolding amend-last
 length-amend-last f [] = refl
 length-amend-last f (e ∷ []) = refl
 length-amend-last f (e ∷ g ∷ es) = ap suc (length-amend-last f (g ∷ es))
+
+pub take-few : (n : ℕ) (l : List Event) → length (take n l) ≤ length l
+take-few zero l = omega arith
+take-few (suc n) [] = omega arith
+take-few (suc n) (e ∷ l) = omega (arith, take-few n l)

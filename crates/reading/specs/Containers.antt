@@ -43,26 +43,26 @@ closes-pair v h first second o s =
     puts (event second (v .base + h .from) (v .base + h .to) ∷ []) no-str
     (with-queue (amend (becomes first nowhere) (o .event) (s .queue)) s)
 
--- the bracket that a `]` takes along: whether it makes an inline link or one by reference
-pub data Taken : Type 0 where
-  taken : Bool → Taken
-  left : Taken
+-- the bracket that a `]` takes along, if it does: `(` of an inline link, or `[` of one by reference
+pub data Along : Type 0 where
+  along : Bool → Along
+  by-itself : Along
 
-unfoldable pub takes : Role → Taken
-takes role.Backticks = left
-takes role.Brace = left
-takes role.Lt = left
-takes role.Colon = left
-takes role.Bracket = taken false
-takes role.Paren = taken true
-takes role.Periods = left
-takes role.Hyphens = left
-takes (role.Other m) = left
+unfoldable pub takes : Role → Along
+takes role.Backticks = by-itself
+takes role.Brace = by-itself
+takes role.Lt = by-itself
+takes role.Colon = by-itself
+takes role.Bracket = along false
+takes role.Paren = along true
+takes role.Periods = by-itself
+takes role.Hyphens = by-itself
+takes (role.Other m) = by-itself
 
 -- what becomes of the `]` of a span: with a bracket of n bytes behind it, which is taken along unscanned, a link is opened; else it stays Str
-unfoldable pub span-with : View → Here → Bool → Opener → Cursor → ℕ → Taken → State → Turn
-span-with v h image o c n left s = record { cursor = c; state = put v str (h .from) (h .to) s }
-span-with v h image o c n (taken inline) s =
+unfoldable pub span-with : View → Here → Bool → Opener → Cursor → ℕ → Along → State → Turn
+span-with v h image o c n by-itself s = record { cursor = c; state = put v str (h .from) (h .to) s }
+span-with v h image o c n (along inline) s =
     record {
       cursor = nextOf (v .bytes) c .cursor;
       state = put v str (h .to) (h .to + n)
@@ -71,7 +71,7 @@ span-with v h image o c n (taken inline) s =
     }
 
 unfoldable pub closes-span : View → Here → Bool → Opener → Cursor → Next → State → Turn
-closes-span v h image o c next.None s = span-with v h image o c 0 left s
+closes-span v h image o c next.None s = span-with v h image o c 0 by-itself s
 closes-span v h image o c (next.Some t) s = span-with v h image o c (t .len) (takes (role-of (t .kind))) s
 
 -- the label of a link whose destination's opener is o

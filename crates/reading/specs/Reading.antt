@@ -23,7 +23,7 @@ use Rattle.reading.specs.declared.Inside.the-variants as inside
 use Rattle.reading.specs.declared.Refused.{Refused}
 use Rattle.reading.specs.declared.Refused.the-variants as refused
 use Rattle.reading.specs.Events.{place, link, str, symbol, footnote}
-use Rattle.reading.specs.Machine.{View, Sheet, State, Turn, Here, viewOf, rulesOf, puts, put, no-str}
+use Rattle.reading.specs.Machine.{View, Sheet, State, Turn, Here, viewOf, rulesOf, puts, no-str, with-inside}
 use Rattle.reading.specs.Tokens.{role-of, is-caret, plain, bracket}
 use Rattle.reading.specs.Atoms.{dashes, dots, autolinked, named}
 use Rattle.reading.specs.Verbatim.{opens-verbatim, in-verbatim, drops-at, moved-on, flag-of, ended-at}
@@ -43,26 +43,22 @@ refuse at s =
       refused = refused.At (place at);
     }
 
--- a Str
-abbrev pub as-str : View → Here → State → Turn
-as-str v h s = record { cursor = h .cursor; state = put v str (h .from) (h .to) s }
-
--- `<`
+-- `<`: an autolink if the scan accepts (Djot: an address in angle brackets); else as any token
 unfoldable pub angle : Sheet → View → Here → Ahead → State → Turn
 angle x v h (ahead.Some n) s = autolinked v h n s
 angle x v h ahead.None s = container x v h (plain str) s
 
--- `:`
+-- `:`: a symbol if the scan accepts (Djot: a name between colons)
 unfoldable pub colon : Sheet → View → Here → Ahead → State → Turn
 colon x v h (ahead.Some n) s = named symbol v h n s
 colon x v h ahead.None s = container x v h (plain str) s
 
--- `[^`
+-- `[^`: a footnote reference if the scan accepts; otherwise it is one two-byte opener
 unfoldable pub noted : Sheet → View → Here → Ahead → State → Turn
 noted x v h (ahead.Some n) s = named footnote v h n s
 noted x v h ahead.None s = container x v h bracket s
 
--- `[`: with `^` behind it, lexed, the two are one token of two bytes, whether or not the scan accepts
+-- `[`: the next token is peeked at; with `^` behind it, and not `^}`, the two are one token
 unfoldable pub bracketed : Sheet → View → Here → Lexed → Next → State → Turn
 bracketed x v h p next.None s = container x v (record { from = h .from; to = h .to; cursor = p .cursor }) bracket s
 bracketed x v h p (next.Some t) s =
@@ -72,7 +68,8 @@ bracketed x v h p (next.Some t) s =
       | false ↦ container x v (record { from = h .from; to = h .to; cursor = p .cursor }) bracket s
     ]
 
--- a token outside verbatim
+-- a token outside verbatim. A run of more than 255 backticks is Str; a bare opening brace refuses the sheet; each three periods are an ellipsis;
+-- two and more hyphens are dashes
 unfoldable pub outside : Sheet → View → Here → Role → State → Turn
 outside x v h role.Backticks s = elim (leb (h .to - h .from) 255) [ true ↦ opens-verbatim v h s | false ↦ container x v h (plain str) s ]
 outside x v h role.Brace s = record { cursor = h .cursor; state = refuse (v .base + h .from) s }
@@ -88,6 +85,7 @@ outside x v h role.Hyphens s =
     ]
 outside x v h (role.Other m) s = container x v h m s
 
+-- a token, inside verbatim or outside
 unfoldable pub by-place : Sheet → View → Here → Token → Inside → State → Turn
 by-place x v h t inside.No s = outside x v h (role-of (t .kind)) s
 by-place x v h t (inside.Verbatim w) s = in-verbatim (x .rules) v h t w s
@@ -105,7 +103,7 @@ unfoldable pub unless-refused : Sheet → View → Turn → Refused → Turn
 unless-refused x v a (refused.At p) = a
 unless-refused x v a refused.No = let l = nextOf (v .bytes) (a .cursor) in on-token x v a (l .token) (l .cursor)
 
--- one step
+-- one step: the next token of the line
 abbrev pub step : Sheet → View → Turn → Turn
 step x v a = unless-refused x v a (a .state .refused)
 
@@ -118,26 +116,19 @@ abbrev pub begun : Sheet → View → State → Turn
 begun x v s =
     record {
       cursor = freshOf 0 (flag-of (x .rules) (s .inside));
-      state = record {
-        queue = s .queue;
-        openers = s .openers;
-        inside = moved-on (s .inside);
-        last = s .last;
-        labels = s .labels;
-        fits = s .fits;
-        links = s .links;
-        refused = s .refused;
-      };
+      state = with-inside (moved-on (s .inside)) s;
     }
 
 -- a line: as many steps as it has bytes, since each takes one at least
 abbrev pub line : Sheet → View → State → State
 line x v s = steps (length (v .bytes)) x v (begun x v s) .state
 
+-- all lines
 unfoldable pub lines : Sheet → List View → State → State
 lines x [] s = s
 lines x (v ∷ vs) s = lines x vs (line x v s)
 
+-- nothing is queued, open or refused at first
 abbrev pub start : State
 start =
     record {
@@ -162,7 +153,7 @@ views text ls = map (viewOf text) ls
 abbrev pub sheet : List ℕ → ℕ → ℕ → Sheet
 sheet text reading room = record { rules = rulesOf reading; text = text; room = room }
 
--- what the lines of a sheet give
+-- what the lines of a sheet give: all lines, and the end
 abbrev pub read : Sheet → List Line → State
 read x ls =
     let s = lines x (views (x .text) ls) start in

@@ -20,7 +20,7 @@ use Rattle.reading.specs.declared.Inside.the-variants as inside
 use Rattle.reading.specs.declared.Last.{Last}
 use Rattle.reading.specs.declared.Line.{Line}
 use Rattle.reading.specs.Events.{event, in-text, becomes, shorter, exit-of, enter, str, verbatim, raw-format, inline-math, display-math}
-use Rattle.reading.specs.Machine.{View, Rules, State, Turn, Here, amend, amend-last, put, no-str, with-queue, with-inside}
+use Rattle.reading.specs.Machine.{View, Rules, State, Turn, Here, amend, amend-last, puts, put, no-str, with-queue, with-inside}
 use Rattle.reading.specs.Tokens.{role-of, is-run, is-format}
 
 -- the lexer in verbatim, or out of it
@@ -38,23 +38,17 @@ opened-as n = elim (eqb n 0) [ true ↦ verbatim | false ↦ elim (eqb n 1) [ tr
 -- A run of backticks opens. Dollars directly before it leave their Str and join the enter's span
 abbrev pub opens-with : ℕ → View → Here → State → State
 opens-with n v h s =
-    record {
-      queue = amend-last (shorter n) (s .queue) ++ (event (enter (opened-as n)) (v .base + h .from - n) (v .base + h .to) ∷ []);
-      openers = s .openers;
-      inside = inside.Verbatim record {
-        event = length (s .queue);
-        len = h .to - h .from;
-        seen = false;
-        run = false;
-        keep = suc (length (s .queue));
-        here = true;
-      };
-      last = no-str;
-      labels = s .labels;
-      fits = s .fits;
-      links = s .links;
-      refused = s .refused;
-    }
+    with-inside
+    (inside.Verbatim record {
+      event = length (s .queue);
+      len = h .to - h .from;
+      seen = false;
+      run = false;
+      keep = suc (length (s .queue));
+      here = true;
+    })
+    (puts (event (enter (opened-as n)) (v .base + h .from - n) (v .base + h .to) ∷ []) no-str
+    (with-queue (amend-last (shorter n) (s .queue)) s))
 
 abbrev pub opens-verbatim : View → Here → State → Turn
 opens-verbatim v h s =
@@ -77,16 +71,7 @@ nothing = event 0 0 0
 -- When a verbatim ends, the event at the opener's place decides the exit, which is put behind what is kept of the queue
 abbrev pub exits : Verbatim → List Event → ℕ → ℕ → State → State
 exits w q a b s =
-    record {
-      queue = q ++ (exit-of (getD (s .queue) (w .event) nothing) a b ∷ []);
-      openers = s .openers;
-      inside = inside.No;
-      last = no-str;
-      labels = s .labels;
-      fits = s .fits;
-      links = s .links;
-      refused = s .refused;
-    }
+    with-inside inside.No (puts (exit-of (getD (s .queue) (w .event) nothing) a b ∷ []) no-str (with-queue q s))
 
 -- the raw format behind a closing run: only where the token there is `{=`
 unfoldable pub format-ahead : View → ℕ → Next → Ahead
