@@ -24,7 +24,7 @@ use Rattle.reading.proofs.Spans.{Gap, Covers, gap-none, covers-after}
 use Rattle.reading.proofs.Queue.{inner-same}
 use Rattle.reading.proofs.Good.{Out, Good, GoodBy}
 use Rattle.reading.proofs.Backticks.{Shows, exits-out}
-use Rattle.reading.proofs.Stepping.{Held, held-less, step-held, step-blank}
+use Rattle.reading.proofs.Stepping.{Held, either, either₂, held-refused, held-less, step-held, step-blank}
 
 -- a byte of one of two lists of lines
 pub of-left : (a b : List Line) (i : ℕ) → Of a i → Of (a ++ b) i
@@ -68,15 +68,27 @@ module _ (Loose : ℕ → Type 0) (text : List ℕ) (x : Sheet) where
   told-right a b t i o = t i (of-right a b i o)
 
   module _ (v : View) (m : ℕ) (shows : Shows text v) where
+    -- a step, and what is still to be told
+    module _ (n : ℕ) (a : Turn) (un : a .state .refused ≡ refused.No) (t : Told (step-drops v a ++ steps-drop n x v (step x v a))) where
+      now-told : Told (step-drops v a)
+      now-told = told-left (step-drops v a) (steps-drop n x v (step x v a)) t
+
+      then-told : Told (steps-drop n x v (step x v a))
+      then-told = told-right (step-drops v a) (steps-drop n x v (step x v a)) t
+
+      next-held : Held Loose text v m 0 a → Held Loose text v m 0 (step x v a)
+      next-held h =
+          ⊎-elim (held-less Loose text x v m 1 0 (step x v a) (omega arith)) (held-less Loose text x v m (length (v .bytes)) 0 (step x v a) (omega arith))
+          (step-held Loose text x v m shows a (h .sound) 0 h un now-told)
+
     -- any number of steps
     pub steps-some : (n : ℕ) (a : Turn) → Held Loose text v m 0 a → Told (steps-drop n x v a) → Held Loose text v m 0 (steps n x v a)
     unfolding steps steps-drop
     steps-some zero a h t = h
     steps-some (suc n) a h t =
-        steps-some n (step x v a)
-        (⊎-elim (held-less Loose text x v m 1 0 (step x v a) (omega arith)) (held-less Loose text x v m (length (v .bytes)) 0 (step x v a) (omega arith))
-        (step-held Loose text x v m shows a (h .sound) 0 h (told-left (step-drops v a) (steps-drop n x v (step x v a)) t)))
-        (told-right (step-drops v a) (steps-drop n x v (step x v a)) t)
+        either₂ (λ (d : List Line) (b : Turn). Told d → Held Loose text v m 0 b) (a .state .refused) _ _ _ _
+        (λ p e t. h)
+        (λ e t. steps-some n (step x v a) (next-held n a e t h) (then-told n a e t)) t
 
     -- enough of them reach the line's end
     pub steps-all : (n lo : ℕ) (a : Turn) → length (v .bytes) ≤ lo + n → Held Loose text v m lo a → Told (steps-drop n x v a)
@@ -84,25 +96,26 @@ module _ (Loose : ℕ → Type 0) (text : List ℕ) (x : Sheet) where
     unfolding steps steps-drop
     steps-all zero lo a l h t = held-less Loose text x v m lo (length (v .bytes)) a (omega arith) h
     steps-all (suc n) lo a l h t =
-        let rest = told-right (step-drops v a) (steps-drop n x v (step x v a)) t in
+        either₂ (λ (d : List Line) (b : Turn). Told d → Held Loose text v m (length (v .bytes)) b) (a .state .refused) _ _ _ _
+        (λ p e t. held-refused Loose text x v m lo (length (v .bytes)) a p e h)
+        (λ e t.
         ⊎-elim
-        (λ (k : Held Loose text v m (suc lo) (step x v a)). steps-all n (suc lo) (step x v a) (omega arith) k rest)
-        (λ (k : Held Loose text v m (length (v .bytes)) (step x v a)). steps-all n (length (v .bytes)) (step x v a) (omega arith) k rest)
-        (step-held Loose text x v m shows a (h .sound) lo h (told-left (step-drops v a) (steps-drop n x v (step x v a)) t))
+        (λ (k : Held Loose text v m (suc lo) (step x v a)). steps-all n (suc lo) (step x v a) (omega arith) k (then-told n a e t))
+        (λ (k : Held Loose text v m (length (v .bytes)) (step x v a)). steps-all n (length (v .bytes)) (step x v a) (omega arith) k (then-told n a e t))
+        (step-held Loose text x v m shows a (h .sound) lo h e (now-told n a e t))) t
 
     pub steps-blank : (n : ℕ) (a : Turn) → Held Loose text v m 0 a → Told (steps-drop n x v a)
         → (i : ℕ) → Of (steps-drop n x v a) i → blank (getD text i 0) ≡ true
     unfolding steps-drop Of
     steps-blank zero a h t i o = absurd o
     steps-blank (suc n) a h t i o =
+        either (λ (d : List Line). Told d → Of d i → blank (getD text i 0) ≡ true) (a .state .refused) _ _
+        (λ p e t o. absurd o)
+        (λ e t o.
         ⊎-elim
-        (λ (y : Of (step-drops v a) i). step-blank Loose text x v m shows a (h .sound) 0 h i y)
-        (λ (y : Of (steps-drop n x v (step x v a)) i).
-        steps-blank n (step x v a)
-        (⊎-elim (held-less Loose text x v m 1 0 (step x v a) (omega arith)) (held-less Loose text x v m (length (v .bytes)) 0 (step x v a) (omega arith))
-        (step-held Loose text x v m shows a (h .sound) 0 h (told-left (step-drops v a) (steps-drop n x v (step x v a)) t)))
-        (told-right (step-drops v a) (steps-drop n x v (step x v a)) t) i y)
-        (of-parts (step-drops v a) (steps-drop n x v (step x v a)) i o)
+        (λ (y : Of (step-drops v a) i). step-blank Loose text x v m shows a (h .sound) 0 h e i y)
+        (λ (y : Of (steps-drop n x v (step x v a)) i). steps-blank n (step x v a) (next-held n a e t h) (then-told n a e t) i y)
+        (of-parts (step-drops v a) (steps-drop n x v (step x v a)) i o)) t o
 
   -- between two lines
   pub record Stood (at n : ℕ) (s : State) : Type 0 where

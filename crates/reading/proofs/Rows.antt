@@ -18,8 +18,8 @@ use Rattle.reading.specs.Verbatim.{taken, opened-as, kept, cut, format-a
 use Rattle.reading.specs.Verbatim.{drops-at, moved-on, flag-of, ended-at}
 use Rattle.reading.specs.Labels.{word, words, stretches, pieces, label-of, shelved}
 use Rattle.reading.specs.Containers.{seek, may-close, takes, span-with, closes-span, close-as, blank-after, may-open, opens-or, tried}
-use Rattle.reading.specs.Reading.{angle, colon, noted, bracketed, outside, by-place, on-token, unless-refused, steps, lines, end-of}
-use Rattle.reading.specs.Reading.{drops-in, drops-on, drops-unless, step-drops, steps-drop, lines-drop}
+use Rattle.reading.specs.Reading.{angle, colon, noted, bracketed, outside, by-place, on-token, unless, steps, lines, end-of}
+use Rattle.reading.specs.Reading.{drops-in, drops-on, step-drops, steps-drop, lines-drop}
 use Rattle.reading.specs.Draining.{flushed, drained}
 use Rattle.reading.specs.Questions.{total, first-outside, first-early, numbers, handed-out, judged, outcome}
 use Rattle.reading.proofs.Sheets.{Row, found, expected, blanks, span, at-home, given, one-line, refused-at}
@@ -63,13 +63,13 @@ others =
     ∷ []
 
 all-rows : (map found worked ≡ map expected worked) × (map blanks worked ≡ worked-blanks)
-unfolding worked worked-blanks bytes another-run among special blank alphanumeric punctuation inSet run lookup starts startOf braces hyphensOf begunBy escapedOf lexed texts foundBy takenOf nextBy peekBy closedAt uptoOf scans.mark marked autolinkOf symbolOf footnoteOf rawFormatOf comesOut firstFrom fewest dashesOf prev amend amend-last dollarsOf lastOf closed-by unclosed closing-of link-sort role-of is-run opens-closed-by opens-a row dashes taken opened-as kept cut format-ahead closed-with all-blank blank-content in-verbatim drops-at moved-on flag-of ended-at word words stretches pieces label-of shelved seek may-close takes span-with closes-span close-as blank-after may-open opens-or tried angle colon noted bracketed outside by-place on-token unless-refused steps lines end-of drops-in drops-on drops-unless step-drops steps-drop lines-drop flushed drained first-outside first-early handed-out judged outcome total numbers
+unfolding worked worked-blanks bytes another-run among special blank alphanumeric punctuation inSet run lookup starts startOf braces hyphensOf begunBy escapedOf lexed texts foundBy takenOf nextBy peekBy closedAt uptoOf scans.mark marked autolinkOf symbolOf footnoteOf rawFormatOf comesOut firstFrom fewest dashesOf prev amend amend-last dollarsOf lastOf closed-by unclosed closing-of link-sort role-of is-run opens-closed-by opens-a row dashes taken opened-as kept cut format-ahead closed-with all-blank blank-content in-verbatim drops-at moved-on flag-of ended-at word words stretches pieces label-of shelved seek may-close takes span-with closes-span close-as blank-after may-open opens-or tried angle colon noted bracketed outside by-place on-token unless steps lines end-of drops-in drops-on step-drops steps-drop lines-drop flushed drained first-outside first-early handed-out judged outcome total numbers
 all-rows = (refl, refl)
 
 other-rows : map found others ≡ map expected others
-unfolding others bytes another-run among special blank alphanumeric punctuation inSet run lookup starts startOf braces hyphensOf begunBy escapedOf lexed texts foundBy takenOf nextBy peekBy closedAt uptoOf scans.mark marked autolinkOf symbolOf footnoteOf rawFormatOf comesOut firstFrom fewest dashesOf prev amend amend-last dollarsOf lastOf closed-by unclosed closing-of link-sort role-of is-run opens-closed-by opens-a row dashes taken opened-as kept cut format-ahead closed-with all-blank blank-content in-verbatim drops-at moved-on flag-of ended-at word words stretches pieces label-of shelved seek may-close takes span-with closes-span close-as blank-after may-open opens-or tried angle colon noted bracketed outside by-place on-token unless-refused steps lines end-of drops-in drops-on drops-unless step-drops steps-drop lines-drop flushed drained first-outside first-early handed-out judged outcome total numbers
+unfolding others bytes another-run among special blank alphanumeric punctuation inSet run lookup starts startOf braces hyphensOf begunBy escapedOf lexed texts foundBy takenOf nextBy peekBy closedAt uptoOf scans.mark marked autolinkOf symbolOf footnoteOf rawFormatOf comesOut firstFrom fewest dashesOf prev amend amend-last dollarsOf lastOf closed-by unclosed closing-of link-sort role-of is-run opens-closed-by opens-a row dashes taken opened-as kept cut format-ahead closed-with all-blank blank-content in-verbatim drops-at moved-on flag-of ended-at word words stretches pieces label-of shelved seek may-close takes span-with closes-span close-as blank-after may-open opens-or tried angle colon noted bracketed outside by-place on-token unless steps lines end-of drops-in drops-on step-drops steps-drop lines-drop flushed drained first-outside first-early handed-out judged outcome total numbers
 other-rows = refl
 
 sampled-rows : map found sampled ≡ map expected sampled
-unfolding sampled bytes another-run among special blank alphanumeric punctuation inSet run lookup starts startOf braces hyphensOf begunBy escapedOf lexed texts foundBy takenOf nextBy peekBy closedAt uptoOf scans.mark marked autolinkOf symbolOf footnoteOf rawFormatOf comesOut firstFrom fewest dashesOf prev amend amend-last dollarsOf lastOf closed-by unclosed closing-of link-sort role-of is-run opens-closed-by opens-a row dashes taken opened-as kept cut format-ahead closed-with all-blank blank-content in-verbatim drops-at moved-on flag-of ended-at word words stretches pieces label-of shelved seek may-close takes span-with closes-span close-as blank-after may-open opens-or tried angle colon noted bracketed outside by-place on-token unless-refused steps lines end-of drops-in drops-on drops-unless step-drops steps-drop lines-drop flushed drained first-outside first-early handed-out judged outcome total numbers
+unfolding sampled bytes another-run among special blank alphanumeric punctuation inSet run lookup starts startOf braces hyphensOf begunBy escapedOf lexed texts foundBy takenOf nextBy peekBy closedAt uptoOf scans.mark marked autolinkOf symbolOf footnoteOf rawFormatOf comesOut firstFrom fewest dashesOf prev amend amend-last dollarsOf lastOf closed-by unclosed closing-of link-sort role-of is-run opens-closed-by opens-a row dashes taken opened-as kept cut format-ahead closed-with all-blank blank-content in-verbatim drops-at moved-on flag-of ended-at word words stretches pieces label-of shelved seek may-close takes span-with closes-span close-as blank-after may-open opens-or tried angle colon noted bracketed outside by-place on-token unless steps lines end-of drops-in drops-on step-drops steps-drop lines-drop flushed drained first-outside first-early handed-out judged outcome total numbers
 sampled-rows = refl

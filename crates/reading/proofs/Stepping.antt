@@ -32,8 +32,8 @@ use Rattle.reading.specs.Events.{str, symbol, footnote}
 use Rattle.reading.specs.Machine.{View, Sheet, State, Turn, Here}
 use Rattle.reading.specs.Tokens.{role-of, is-caret, plain, bracket}
 use Rattle.reading.specs.Containers.{container}
-use Rattle.reading.specs.Reading.{angle, colon, noted, bracketed, outside, by-place, here-at, on-token, unless-refused, step}
-use Rattle.reading.specs.Reading.{drops-in, drops-on, drops-unless, step-drops}
+use Rattle.reading.specs.Reading.{angle, colon, noted, bracketed, outside, by-place, here-at, on-token, unless, step}
+use Rattle.reading.specs.Reading.{drops-in, drops-on, step-drops}
 use Rattle.reading.specs.Walked.{Of}
 use Rattle.reading.proofs.Choose.{choose}
 use Rattle.reading.proofs.Good.{Out, Good, GoodBy, good-few}
@@ -52,6 +52,18 @@ pub record Held (Loose : ℕ → Type 0) (text : List ℕ) (v : View) (m lo : �
 
 pub met : (p : Place) → refused.At p ≡ refused.No → ⊥
 met p e = let z : _≡_ {A = ℕ} 0 1 = cc in omega arith
+
+-- what holds of a refused turn and of any other holds of the one that is taken
+pub either : {A : Type 0} (P : A → Type 0) (r : Refused) (x y : A) → ((p : Place) → r ≡ refused.At p → P x) → (r ≡ refused.No → P y) → P (unless r x y)
+unfolding unless
+either P (refused.At p) x y f g = f p refl
+either P refused.No x y f g = g refl
+
+pub either₂ : {A B : Type 0} (P : A → B → Type 0) (r : Refused) (x y : A) (u w : B) → ((p : Place) → r ≡ refused.At p → P x u)
+    → (r ≡ refused.No → P y w) → P (unless r x y) (unless r u w)
+unfolding unless
+either₂ P (refused.At p) x y u w f g = f p refl
+either₂ P refused.No x y u w f g = g refl
 
 module _ (Loose : ℕ → Type 0) (text : List ℕ) (x : Sheet) (v : View) (m : ℕ) where
   held : (lo : ℕ) (a : Turn) → Fine Loose text v m lo a → Held Loose text v m lo a
@@ -151,6 +163,10 @@ module _ (Loose : ℕ → Type 0) (text : List ℕ) (x : Sheet) (v : View) (m : 
           (λ e. dashes-fine Loose text v m now k s no g (omega (arith, ltb-false (j - i) 2 e))))
       outside-held (role.Other mk) ok = held (suc i) _ (contained j c k mk ok)
 
+  -- of a refused turn nothing is said but the bounds
+  pub held-refused : (lo hi : ℕ) (a : Turn) (p : Place) → a .state .refused ≡ refused.At p → Held Loose text v m lo a → Held Loose text v m hi a
+  held-refused lo hi a p e h = record { sound = h .sound; few = h .few; opens = h .opens; good = λ z. absurd (met p (sym e ∙ z)) }
+
   -- another bound
   pub held-less : (lo hi : ℕ) (a : Turn) → hi ≤ lo → Held Loose text v m lo a → Held Loose text v m hi a
   held-less lo hi a l f =
@@ -199,23 +215,15 @@ module _ (Loose : ℕ → Type 0) (text : List ℕ) (x : Sheet) (v : View) (m : 
           let f = hd .good un in
           inl (held-less (suc (a .cursor .pos)) (suc lo) _ (omega (arith, f .far)) (by-held (f .good) t e (a .state .inside) refl (f .good) told))
 
-      pub step-held : ((i : ℕ) → Of (step-drops v a) i → Loose i) → Taken-on lo (step x v a)
-      unfolding step-drops unless-refused drops-unless
-      step-held told = go (a .state .refused) refl told
-        where
-          go : (r : Refused) → a .state .refused ≡ r → ((i : ℕ) → Of (drops-unless v a r) i → Loose i) → Taken-on lo (unless-refused x v a r)
-          go (refused.At p) e told = inl record { sound = so; few = hd .few; opens = hd .opens; good = λ z. absurd (met p (sym e ∙ z)) }
-          go refused.No e told = on-held e (nextOf (v .bytes) (a .cursor) .token) refl told
+      pub step-held : a .state .refused ≡ refused.No → ((i : ℕ) → Of (step-drops v a) i → Loose i) → Taken-on lo (step x v a)
+      unfolding step-drops
+      step-held un told = on-held un (nextOf (v .bytes) (a .cursor) .token) refl told
 
-      pub step-blank : (i : ℕ) → Of (step-drops v a) i → blank (getD text i 0) ≡ true
-      unfolding step-drops drops-unless drops-on Of
-      step-blank i d = go (a .state .refused) refl d
+      pub step-blank : a .state .refused ≡ refused.No → (i : ℕ) → Of (step-drops v a) i → blank (getD text i 0) ≡ true
+      unfolding step-drops drops-on Of
+      step-blank un i d = on (nextOf (v .bytes) (a .cursor) .token) refl d
         where
-          on : (un : a .state .refused ≡ refused.No) (t : Next) → nextOf (v .bytes) (a .cursor) .token ≡ t
+          on : (t : Next) → nextOf (v .bytes) (a .cursor) .token ≡ t
               → Of (drops-on v a t (nextOf (v .bytes) (a .cursor) .cursor)) i → blank (getD text i 0) ≡ true
-          on un next.None e d = absurd d
-          on un (next.Some t) e d = by-blank (hd .good un .good) t e (a .state .inside) refl (hd .good un .good) i d
-
-          go : (r : Refused) → a .state .refused ≡ r → Of (drops-unless v a r) i → blank (getD text i 0) ≡ true
-          go (refused.At p) e d = absurd d
-          go refused.No e d = on e (nextOf (v .bytes) (a .cursor) .token) refl d
+          on next.None e d = absurd d
+          on (next.Some t) e d = by-blank (hd .good un .good) t e (a .state .inside) refl (hd .good un .good) i d

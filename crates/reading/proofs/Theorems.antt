@@ -13,7 +13,6 @@ use Rattle.classes.specs.Classes.{blank}
 use Rattle.reading.specs.declared.Line.{Line}
 use Rattle.reading.specs.declared.Inside.{Inside}
 use Rattle.reading.specs.declared.Inside.the-variants as inside
-use Rattle.reading.specs.declared.Refused.{Refused}
 use Rattle.reading.specs.declared.Refused.the-variants as refused
 use Rattle.lex.specs.declared.lex.Next.{Next}
 use Rattle.lex.specs.declared.lex.Next.the-variants as next
@@ -22,13 +21,14 @@ use Rattle.lex.proofs.Laws.{Sound, next-stepped, next-sounded}
 use Rattle.reading.specs.Machine.{View, Sheet, State, Turn, viewOf}
 use Rattle.reading.specs.Events.{exit-of}
 use Rattle.reading.specs.Verbatim.{nothing, ended-at}
-use Rattle.reading.specs.Reading.{on-token, unless-refused, step, steps, begun, lines, views, start, end-of, read, dropped, moment}
+use Rattle.reading.specs.Reading.{on-token, step, steps, begun, lines, views, start, end-of, read, dropped, moment}
 use Rattle.reading.specs.Questions.{total, first-outside, first-early, Fed}
 use Rattle.reading.specs.Walked.{Walked, Ordered, Of, Covered, Whole, Matches, under, events}
 use Rattle.reading.proofs.Matching.{Still, parts-all}
 use Rattle.reading.proofs.Spans.{Covers, gap-none}
 use Rattle.reading.proofs.Queue.{walks}
 use Rattle.reading.proofs.Good.{Out}
+use Rattle.reading.proofs.Stepping.{met, either, either₂}
 use Rattle.reading.proofs.Drains.{drained-walk, drained-covers, drain-few, covers-ordered, under-one}
 use Rattle.reading.proofs.Feeding.{Rising, Apart, Stood, lines-stood, lines-blank, start-stood, during-few, read-out}
 use Rattle.reading.proofs.Feeding.{view-shows, begun-held, steps-all}
@@ -216,28 +216,29 @@ module _ (x : Sheet) where
         (e .0, rw (e .1) (omega (arith, k .opens)))
 
   -- any count of steps that is large enough gives the same: at the line's end a step changes nothing
-  pub step-end : (v : View) (a : Turn) → Sound (v .bytes) (a .cursor) → (a .state .refused ≡ refused.No → length (v .bytes) ≤ a .cursor .pos) → step x v a ≡ a
-  unfolding unless-refused on-token
-  step-end v a so far = go (a .state .refused) refl
+  pub step-end : (v : View) (a : Turn) → Sound (v .bytes) (a .cursor) → length (v .bytes) ≤ a .cursor .pos → step x v a ≡ a
+  unfolding on-token
+  step-end v a so l = on (nextOf (v .bytes) (a .cursor) .token) refl
     where
-      on : (t : Next) → nextOf (v .bytes) (a .cursor) .token ≡ t → length (v .bytes) ≤ a .cursor .pos → on-token x v a t (nextOf (v .bytes) (a .cursor) .cursor) ≡ a
-      on next.None e l = refl
-      on (next.Some t) e l =
+      on : (t : Next) → nextOf (v .bytes) (a .cursor) .token ≡ t → on-token x v a t (nextOf (v .bytes) (a .cursor) .cursor) ≡ a
+      on next.None e = refl
+      on (next.Some t) e =
           absurd (omega (arith, l, next-stepped (v .bytes) (a .cursor) .within t e, next-sounded (v .bytes) (a .cursor) so .some t e))
 
-      go : (r : Refused) → a .state .refused ≡ r → unless-refused x v a r ≡ a
-      go (refused.At p) e = refl
-      go refused.No e = on (nextOf (v .bytes) (a .cursor) .token) refl (far e)
-
-  pub steps-still : (k : ℕ) (v : View) (a : Turn) → step x v a ≡ a → steps k x v a ≡ a
+  pub steps-still : (k : ℕ) (v : View) (a : Turn) → (a .state .refused ≡ refused.No → step x v a ≡ a) → steps k x v a ≡ a
   unfolding steps
   steps-still zero v a e = refl
-  steps-still (suc k) v a e = ap (λ (b : Turn). steps k x v b) e ∙ steps-still k v a e
+  steps-still (suc k) v a e =
+      either (λ (b : Turn). b ≡ a) (a .state .refused) _ _ (λ p r. refl) (λ r. ap (λ (b : Turn). steps k x v b) (e r) ∙ steps-still k v a e)
 
   pub steps-more : (n k : ℕ) (v : View) (a : Turn) → steps (n + k) x v a ≡ steps k x v (steps n x v a)
   unfolding steps
   steps-more zero k v a = ap (λ (j : ℕ). steps j x v a) (zero-add k)
-  steps-more (suc n) k v a = ap (λ (j : ℕ). steps j x v a) (suc-add n k) ∙ steps-more n k v (step x v a)
+  steps-more (suc n) k v a =
+      ap (λ (j : ℕ). steps j x v a) (suc-add n k)
+      ∙ either₂ (λ (b c : Turn). b ≡ steps k x v c) (a .state .refused) _ _ _ _
+      (λ p r. sym (steps-still k v a (λ z. absurd (met p (sym r ∙ z)))))
+      (λ r. steps-more n k v (step x v a))
 
   pub enough : (ls : List Line) → Fed (x .text) ls → (i : ℕ) (l : Line) (ms : List Line) → drop i ls ≡ l ∷ ms → (k : ℕ)
       → let v = viewOf (x .text) l in
@@ -253,4 +254,4 @@ module _ (x : Sheet) where
       let h = steps-all (Any ls fed) (x .text) x v (0 + total (take i ls)) shows (length (v .bytes)) 0 (begun x v s) (omega arith) b (λ j o. tt) in
       steps-more (length (v .bytes)) k v (begun x v s)
       ∙ steps-still k v (steps (length (v .bytes)) x v (begun x v s))
-      (step-end v (steps (length (v .bytes)) x v (begun x v s)) (h .sound) (λ z. h .good z .far))
+      (λ z. step-end v (steps (length (v .bytes)) x v (begun x v s)) (h .sound) (h .good z .far))

@@ -29,7 +29,7 @@ use Rattle.reading.specs.Atoms.{dashes, dots, autolinked, named}
 use Rattle.reading.specs.Verbatim.{opens-verbatim, in-verbatim, drops-at, moved-on, flag-of, ended-at}
 use Rattle.reading.specs.Containers.{container}
 
--- a bare opening brace: the sheet is refused, and later steps change nothing
+-- a bare opening brace: the sheet is refused, and no later step is taken
 abbrev pub refuse : ℕ → State → State
 refuse at s =
     record {
@@ -99,17 +99,19 @@ unfoldable pub on-token : Sheet → View → Turn → Next → Cursor → Turn
 on-token x v a next.None c = a
 on-token x v a (next.Some t) c = by-place x v (here-at (a .cursor) t c) t (a .state .inside) (a .state)
 
-unfoldable pub unless-refused : Sheet → View → Turn → Refused → Turn
-unless-refused x v a (refused.At p) = a
-unless-refused x v a refused.No = let l = nextOf (v .bytes) (a .cursor) in on-token x v a (l .token) (l .cursor)
-
 -- one step: the next token of the line
 abbrev pub step : Sheet → View → Turn → Turn
-step x v a = unless-refused x v a (a .state .refused)
+step x v a = let l = nextOf (v .bytes) (a .cursor) in on-token x v a (l .token) (l .cursor)
 
+-- one of two, by whether the sheet is refused
+unfoldable pub unless : {A : Type 0} → Refused → A → A → A
+unless (refused.At p) a b = a
+unless refused.No a b = b
+
+-- so many steps, or up to a bare brace
 unfoldable pub steps : ℕ → Sheet → View → Turn → Turn
 steps zero x v a = a
-steps (suc n) x v a = steps n x v (step x v a)
+steps (suc n) x v a = unless (a .state .refused) a (steps n x v (step x v a))
 
 -- a new line: a fresh cursor, no escape pending
 abbrev pub begun : Sheet → View → State → Turn
@@ -176,16 +178,12 @@ unfoldable pub drops-on : View → Turn → Next → Cursor → List Line
 drops-on v a next.None c = []
 drops-on v a (next.Some t) c = drops-in v (here-at (a .cursor) t c) t (a .state .inside) (a .state)
 
-unfoldable pub drops-unless : View → Turn → Refused → List Line
-drops-unless v a (refused.At p) = []
-drops-unless v a refused.No = let l = nextOf (v .bytes) (a .cursor) in drops-on v a (l .token) (l .cursor)
-
 unfoldable pub step-drops : View → Turn → List Line
-step-drops v a = drops-unless v a (a .state .refused)
+step-drops v a = let l = nextOf (v .bytes) (a .cursor) in drops-on v a (l .token) (l .cursor)
 
 unfoldable pub steps-drop : ℕ → Sheet → View → Turn → List Line
 steps-drop zero x v a = []
-steps-drop (suc n) x v a = step-drops v a ++ steps-drop n x v (step x v a)
+steps-drop (suc n) x v a = unless (a .state .refused) [] (step-drops v a ++ steps-drop n x v (step x v a))
 
 unfoldable pub lines-drop : Sheet → List View → State → List Line
 lines-drop x [] s = []

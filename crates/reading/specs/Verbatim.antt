@@ -1,6 +1,6 @@
 -- Verbatim (document 01, "Verbatim"; Djot's rules on verbatim, raw inlines and math).
 use Prim.Native.Nat.{ℕ, suc, _+_, _-_}
-use mathlib.Core.List.{List, [], _∷_, _++_, map}
+use mathlib.Core.List.{List, [], _∷_, map}
 use mathlib.Core.Bool.{Bool, true, false, not, _&&_}
 use lib.Dec.{eqb}
 use lib.ListN.{length, getD, take, drop}
