@@ -5,7 +5,7 @@ use crate::random::Random;
 use crate::sheets::{cut, oracle, text, Input};
 
 /// How many sheets, how long they are at most, and how many label bytes the table's rooms hold.
-const ROWS: usize = 120;
+const ROWS: usize = 240;
 const LONGEST: usize = 24;
 const LABELS: usize = 16;
 
