@@ -68,10 +68,12 @@ module _ (text : List ℕ) (ls : List Line) (reading : ℕ) (rooms : Rooms) wher
   accepted =
       asks Claim (λ code at l u e. absurd (omega (arith, e, l)))
       (λ fed. judges Claim (λ code at l u e. absurd (omega (arith, e, l))) (read x ls .refused) (read x ls .fits) (read x ls)
-      (λ r.
-      choose Claim (leb (length (drain (read x ls .queue))) (length (rooms .events) / 7)) _ _
-      (λ b e. record { whole = whole x ls fed r; count = refl; handed = refl })
-      (λ b e. absurd (omega (arith, e)))))
+      (λ r. go r fed (leb (length (drain (read x ls .queue))) (length (rooms .events) / 7)) refl))
     where
       Claim : Outcome → Type 0
       Claim o = o .answer .code ≡ 0 → Accepted text ls reading rooms o
+
+      go : read x ls .refused ≡ refused.No → Fed text ls → (b : Bool) → leb (length (drain (read x ls .queue))) (length (rooms .events) / 7) ≡ b
+          → Claim (handed-out (drain (read x ls .queue)) (read x ls .labels) rooms)
+      go r fed true b e = record { whole = whole x ls fed r; count = rw (b, handed-out); handed = rw (b, handed-out) }
+      go r fed false b e = absurd (omega (arith, rw (b, handed-out) at e))

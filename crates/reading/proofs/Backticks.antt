@@ -1,7 +1,7 @@
 -- Verbatim: the invariant behind a run that opens, content, dropped blanks and a run that closes; and what is dropped is blank.
 use Prim.Native.Nat.{ℕ, zero, suc, _+_, _-_, _≤_, _<_}
 use mathlib.Core.Path.{_≡_, refl, sym, ap, _∙_, subst}
-use mathlib.Core.List.{List, [], _∷_, _++_, map}
+use mathlib.Core.List.{List, [], _∷_, _++_, map, map-append}
 use mathlib.Core.Bool.{Bool, true, false, _&&_, and-eq-true-iff}
 use mathlib.Core.Logic.{_⊎_, inl, inr, ⊎-elim}
 use native.Mathlib.Omega.{arith}
@@ -27,7 +27,7 @@ use Rattle.reading.specs.declared.Verbatim.{Verbatim}
 use Rattle.reading.specs.declared.Inside.{Inside}
 use Rattle.reading.specs.declared.Inside.the-variants as inside
 use Rattle.reading.specs.Events.{Home, event, nowhere, in-text, becomes, shorter, exit-of, enter, str, raw-format}
-use Rattle.reading.specs.Machine.{View, Rules, State, Turn, Here, amend, amend-last, put}
+use Rattle.reading.specs.Machine.{View, Rules, State, Here, amend, amend-last, put}
 use Rattle.reading.specs.Tokens.{role-of, is-format}
 use Rattle.reading.specs.Verbatim.{flagged, taken, opened-as, opens-verbatim, closes, kept, cut, nothing, format-ahead}
 use Rattle.reading.specs.Verbatim.{formatted, closed-with, closes-verbatim, all-blank, bytes-of, skips, content, blank-content, in-verbatim}
@@ -36,7 +36,7 @@ use Rattle.reading.specs.Walked.{walk-by, Of}
 use Rattle.reading.proofs.Choose.{choose, choose₂}
 use Rattle.reading.proofs.Matching.{Wraps, wraps-match, Parts}
 use Rattle.reading.proofs.Spans.{Covers, covers-append, covers-after, covers-amend, covers-cut, covers-same, covers-shorter, covers-one}
-use Rattle.reading.proofs.Spans.{amend-last-at, length-amend, length-amend-last, take-few}
+use Rattle.reading.proofs.Spans.{of-parts, amend-last-at, length-amend, length-amend-last, take-few}
 use Rattle.reading.proofs.Queue.{walks, Inner, inner-put, inner-amend, inner-exit, inner-open}
 use Rattle.reading.proofs.Good.{Out, In, Good, GoodBy, Ends, LastOk, Blank, walk-neither}
 use Rattle.reading.proofs.Places.{HereOk, Fine, fine-at, sound-flagged, peek-sound, peek-place}
@@ -130,12 +130,6 @@ drop-amend f i n [] l = refl
 drop-amend f i zero (e ∷ q) l = absurd (omega arith)
 drop-amend f zero (suc n) (e ∷ q) l = refl
 drop-amend f (suc i) (suc n) (e ∷ q) l = drop-amend f i n q (omega arith)
-
-of-append : (a b : List Event) (i : ℕ) → Of (map span-of (a ++ b)) i → Of (map span-of a) i ⊎ Of (map span-of b) i
-unfolding Of
-of-append [] b i o = inr o
-of-append (e ∷ a) b i (inl x) = inl (inl x)
-of-append (e ∷ a) b i (inr o) = ⊎-elim (λ (x : Of (map span-of a) i). inl (inr x)) (λ (x : Of (map span-of b) i). inr x) (of-append a b i o)
 
 raw-wraps : (h : Home) → Wraps (walk-by (enter raw-format) h) (walk-by (enter raw-format + 32) h)
 unfolding walk-by
@@ -242,8 +236,8 @@ module _ (Loose : ℕ → Type 0) (text : List ℕ) (w : Verbatim) where
         good-in Loose text w _ _ _ is
         (put-in w refl (g .low) (omega (arith, g .high))
         (λ i o. ⊎-elim (g .blanks i) (λ (x : Of (span-of e ∷ []) i). ⊎-elim (λ (y : (v .base + h .from ≤ i) × (i < v .base + h .to)). token-blank bl i (y .0) (y .1)) (λ (y : ⊥). absurd y) x)
-        (of-append (drop (w .keep) (s .queue)) (e ∷ []) i
-        (subst (λ (l : List Event). Of (map span-of l) i) (drop-append-le (w .keep) (s .queue) (e ∷ []) (g .high)) o)))
+        (of-parts (map span-of (drop (w .keep) (s .queue))) (span-of e ∷ []) i
+        (subst (λ (l : List Line). Of l i) (ap (map span-of) (drop-append-le (w .keep) (s .queue) (e ∷ []) (g .high)) ∙ map-append span-of (drop (w .keep) (s .queue)) (e ∷ [])) o)))
         (put v str (h .from) (h .to) s) refl refl)
 
     content-fine : (t : Token) → Fine Loose text v m (suc (h .from)) (record { cursor = h .cursor; state = content v h t w s })
@@ -316,18 +310,14 @@ module _ (Loose : ℕ → Type 0) (text : List ℕ) (w : Verbatim) where
 
     pub in-fine : (r : Rules) (t : Token) → ((i : ℕ) → Of (drops-at v h t w s) i → Loose i) → Fine Loose text v m (suc (h .from)) (in-verbatim r v h t w s)
     unfolding in-verbatim drops-at Of
-    in-fine r t told =
-        choose₂ Goes (closes w h t) _ _ _ _ (λ e f. closes-fine r f)
-        (λ e f. choose (Fine Loose text v m (suc (h .from))) (all-blank (bytes-of v h)) _ _
-        (λ y. blank-fine y (λ z i l u. f i (subst (Of-one i) (sym (ap (λ (b : Bool). b && skips w (peekOf (v .bytes) (h .cursor) .token)) y ∙ z)) (inl (l, u)))))
-        (λ y. content-fine t))
-        told
+    in-fine r t told = go (closes w h t) refl (all-blank (bytes-of v h)) refl
       where
-        Goes : List Line → Turn → Type 0
-        Goes d a = ((i : ℕ) → Of d i → Loose i) → Fine Loose text v m (suc (h .from)) a
-
-        Of-one : ℕ → Bool → Type 0
-        Of-one i b = Of (elim b [ true ↦ record { start = v .base + h .from; end = v .base + h .to } ∷ [] | false ↦ [] ]) i
+        go : (b : Bool) → closes w h t ≡ b → (c : Bool) → all-blank (bytes-of v h) ≡ c
+            → Fine Loose text v m (suc (h .from)) (in-verbatim r v h t w s)
+        go true e c y = rw (e, in-verbatim) (closes-fine r (λ j o. told j (rw (e, drops-at) o)))
+        go false e true y =
+            rw (e, y, in-verbatim) (blank-fine y (λ z i l u. told i (rw (e, y, z, drops-at) (inl (l, u)))))
+        go false e false y = rw (e, y, in-verbatim) (content-fine t)
 
     -- what is dropped is blank
     pub drops-blank : (t : Token) (i : ℕ) → Of (drops-at v h t w s) i → blank (getD text i 0) ≡ true

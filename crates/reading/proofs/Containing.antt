@@ -1,8 +1,8 @@
 -- Containers: whatever a token closes or opens, the invariant holds behind it.
 use Prim.Native.Nat.{ℕ, suc, _+_, _-_, _≤_, _<_}
 use mathlib.Core.Path.{_≡_, refl, sym, ap, _∙_, subst}
-use mathlib.Core.List.{List, [], _∷_, _++_}
-use mathlib.Core.Bool.{Bool}
+use mathlib.Core.List.{List, [], _∷_, _++_, map-append}
+use mathlib.Core.Bool.{Bool, true, false}
 use mathlib.Core.Logic.{inl}
 use native.Mathlib.Omega.{arith}
 use lib.ListN.{length, take, set, length-append, length-map}
@@ -32,7 +32,7 @@ use Rattle.reading.specs.Walked.{Walk, neither, walk-by, walk-of}
 use Rattle.reading.proofs.Choose.{choose}
 use Rattle.reading.proofs.Matching.{Wraps, Top, LinkTop, TopBy, Parts, parts-drop}
 use Rattle.reading.proofs.Spans.{Covers, covers-append, covers-amend, covers-to, covers-one, length-amend, take-few}
-use Rattle.reading.proofs.Queue.{walks, walks-append, walks-take, walks-amend, parts-seek, seek-few, top-close, link-close, parts-close}
+use Rattle.reading.proofs.Queue.{walks, walks-take, walks-amend, parts-seek, seek-few, top-close, link-close, parts-close}
 use Rattle.reading.proofs.Queue.{Single, parts-open, parts-link}
 use Rattle.reading.proofs.Good.{Out, Good, GoodBy, out-put, out-openers, walk-neither}
 use Rattle.reading.proofs.Tables.{KindOk, closing-ok, unclosed-low, link-not-single, OpensOk, MarksOk}
@@ -61,7 +61,7 @@ module _ (Loose : ℕ → Type 0) (text : List ℕ) where
         let p = put-then (unclosed o) (unclosed-low o) in
         out-openers Loose text (record { sort = o; event = length (s .queue); span = 0 } ∷ s .openers) (v .base + h .to) (m + h .to)
         (put v (unclosed o) (h .from) (h .to) s) p
-        (rw (walks-append (s .queue) (event (unclosed o) (v .base + h .from) (v .base + h .to) ∷ []), walk-neither Loose text (unclosed o) nowhere (unclosed-low o))
+        (rw (map-append walk-of (s .queue) (event (unclosed o) (v .base + h .from) (v .base + h .to) ∷ []), walk-neither Loose text (unclosed o) nowhere (unclosed-low o))
         (parts-open (walks (s .queue)) (record { sort = o; event = length (s .queue); span = 0 }) (s .openers) size (g .parts) si))
         (omega (arith, g .opens, k .long))
 
@@ -86,7 +86,7 @@ module _ (Loose : ℕ → Type 0) (text : List ℕ) where
                 (covers-amend Loose first nowhere (o .event) 0 (s .queue) (v .base + h .from) (g .covers))
                 (covers-one Loose e (omega (arith, k .long)));
             parts =
-                rw (walks-append (amend (becomes first nowhere) (o .event) (s .queue)) (e ∷ []), walks-amend (becomes first nowhere) (walk-by first nowhere) (λ x. refl) (o .event) (s .queue))
+                rw (map-append walk-of (amend (becomes first nowhere) (o .event) (s .queue)) (e ∷ []), walks-amend (becomes first nowhere) (walk-by first nowhere) (λ x. refl) (o .event) (s .queue))
                 (top-close (walks (s .queue)) os (o .event) (walk-by first nowhere) (walk-by second nowhere) t w);
             few =
                 omega (
@@ -184,8 +184,8 @@ module _ (Loose : ℕ → Type 0) (text : List ℕ) where
 
           same : walks (both .queue) ≡ walks (s .queue) ++ (neither ∷ []) ++ (neither ∷ [])
           same =
-              walks-append (one .queue) (event str (v .base + h .to) (v .base + (h .to + n)) ∷ [])
-              ∙ ap (λ (x : List Walk). x ++ (walk-by str nowhere ∷ [])) (walks-append (s .queue) (event str (v .base + h .from) (v .base + h .to) ∷ []))
+              map-append walk-of (one .queue) (event str (v .base + h .to) (v .base + (h .to + n)) ∷ [])
+              ∙ ap (λ (x : List Walk). x ++ (walk-by str nowhere ∷ [])) (map-append walk-of (s .queue) (event str (v .base + h .from) (v .base + h .to) ∷ []))
               ∙ ap (λ (x : Walk). walks (s .queue) ++ (x ∷ []) ++ (x ∷ [])) (walk-neither Loose text str nowhere (omega arith))
 
       -- a peek behind the closing token
@@ -233,10 +233,11 @@ module _ (Loose : ℕ → Type 0) (text : List ℕ) where
         → Fine Loose text v m (suc (h .from)) (tried x v h mk os s)
     unfolding tried
     tried-fine x mk ok [] p l = alone-fine mk ok
-    tried-fine x mk ok (o ∷ os) p l =
-        choose (Fine Loose text v m (suc (h .from))) (may-close v h s o) _ _
-        (λ e. close-fine o os p l x (closing-of (o .sort)) refl (closing-ok (o .sort)))
-        (λ e. alone-fine mk ok)
+    tried-fine x mk ok (o ∷ os) p l = go (may-close v h s o) refl
+      where
+        go : (b : Bool) → may-close v h s o ≡ b → Fine Loose text v m (suc (h .from)) (tried x v h mk (o ∷ os) s)
+        go true e = rw (e, tried) (close-fine o os p l x (closing-of (o .sort)) refl (closing-ok (o .sort)))
+        go false e = rw (e, tried) (alone-fine mk ok)
 
     pub container-fine : (x : Sheet) (mk : Marks) → MarksOk mk → Fine Loose text v m (suc (h .from)) (container x v h mk s)
     container-fine x mk ok =

@@ -96,9 +96,9 @@ module _ (Loose : ℕ → Type 0) where
       (h .0, h .1, drained-covers (e .end .0) (e .end .0) (e .end .0) es c (gap-none Loose (e .end .0)) (omega arith) (h .2)))
 
   -- a cover is in order
-  pub covers-ordered : (a : ℕ) (es : List Event) (b : ℕ) → Covers Loose a es b → Ordered a es
+  pub covers-ordered : (a : ℕ) (es : List Event) (b : ℕ) → Covers Loose a es b → Ordered a es b
   unfolding Covers Ordered
-  covers-ordered a [] b c = tt
+  covers-ordered a [] b c = c .up
   covers-ordered a (e ∷ es) b c = (c .0 .up, c .1, covers-ordered (e .end .0) es b (c .2))
 
   -- a byte before it is under no span

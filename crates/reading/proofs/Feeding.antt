@@ -3,7 +3,7 @@ use Prim.Native.Nat.{ℕ, zero, suc, _+_, _-_, _≤_}
 use mathlib.Core.Path.{_≡_, refl, sym, _∙_, subst}
 use mathlib.Core.List.{List, [], _∷_, _++_}
 use mathlib.Core.Bool.{true, false}
-use mathlib.Core.Logic.{_⊎_, inl, inr, ⊎-elim}
+use mathlib.Core.Logic.{_⊎_, inl, ⊎-elim}
 use native.Mathlib.Omega.{arith}
 use lib.ListN.{length, getD, drop, length-drop}
 use lib.Seq.{length-take-le, getD-take, getD-drop}
@@ -20,29 +20,11 @@ use Rattle.reading.specs.Reading.{step, steps, begun, line, lines, start
 use Rattle.reading.specs.Walked.{Of}
 use Rattle.reading.specs.Questions.{total}
 use Rattle.reading.proofs.Matching.{Parts, still-nil}
-use Rattle.reading.proofs.Spans.{Gap, Covers, gap-none, covers-after}
+use Rattle.reading.proofs.Spans.{Gap, Covers, gap-none, covers-after, of-left, of-right, of-parts}
 use Rattle.reading.proofs.Queue.{inner-same}
 use Rattle.reading.proofs.Good.{Out, Good, GoodBy}
 use Rattle.reading.proofs.Backticks.{Shows, exits-out}
 use Rattle.reading.proofs.Stepping.{Held, either, either₂, held-refused, held-less, step-held, step-blank}
-
--- a byte of one of two lists of lines
-pub of-left : (a b : List Line) (i : ℕ) → Of a i → Of (a ++ b) i
-unfolding Of
-of-left (l ∷ a) b i (inl x) = inl x
-of-left (l ∷ a) b i (inr x) = inr (of-left a b i x)
-of-left [] b i x = absurd x
-
-pub of-right : (a b : List Line) (i : ℕ) → Of b i → Of (a ++ b) i
-unfolding Of
-of-right [] b i x = x
-of-right (l ∷ a) b i x = inr (of-right a b i x)
-
-pub of-parts : (a b : List Line) (i : ℕ) → Of (a ++ b) i → Of a i ⊎ Of b i
-unfolding Of
-of-parts [] b i x = inr x
-of-parts (l ∷ a) b i (inl x) = inl (inl x)
-of-parts (l ∷ a) b i (inr x) = ⊎-elim (λ (y : Of a i). inl (inr y)) (λ (y : Of b i). inr y) (of-parts a b i x)
 
 -- lines that lie within the text, one behind another, from a on
 unfoldable pub Rising : List ℕ → ℕ → List Line → Type 0
@@ -246,7 +228,7 @@ module _ (Loose : ℕ → Type 0) (text : List ℕ) (x : Sheet) where
       record { covers = g .covers; parts = g .parts; few = omega (arith, g .few); opens = omega (arith, g .opens); last = g .last }
   ended-out (inside.Verbatim w) b n s g e =
       exits-out Loose text u s (s .queue) (s .openers) b b n (suc n) (g .covers) (inner-same w u (s .queue) (s .openers) refl (g .inner)) (g .few) (g .low) (g .high)
-      (omega arith) (λ j o. absurd o) (omega (arith, g .opens)) (omega arith) _ refl refl refl
+      (omega arith) (λ j o. absurd o) (omega (arith, g .opens)) (omega arith) (ended-at b (inside.Verbatim w) s) refl refl refl
     where
       u : Verbatim
       u = record { event = w .event; len = w .len; seen = w .seen; run = false; keep = w .keep; here = w .here }

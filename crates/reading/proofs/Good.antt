@@ -2,7 +2,7 @@
 -- queue's spans go, and n bounds the bytes of the lines up to there.
 use Prim.Native.Nat.{ℕ, suc, _+_, _-_, _≤_, _<_}
 use mathlib.Core.Path.{_≡_, refl}
-use mathlib.Core.List.{List, [], _∷_, _++_, map}
+use mathlib.Core.List.{List, [], _∷_, _++_, map, map-append}
 use mathlib.Core.Bool.{true, _&&_, and-eq-true-iff}
 use mathlib.Core.Logic.{_⊎_, inl, inr}
 use native.Mathlib.Omega.{arith}
@@ -19,11 +19,11 @@ use Rattle.reading.specs.declared.Inside.the-variants as inside
 use Rattle.reading.specs.Events.{Home, event, str}
 use Rattle.reading.specs.Machine.{View, State, dollar, dollarsOf, lastOf, puts, put, with-openers}
 use Rattle.reading.specs.Verbatim.{span-of}
-use Rattle.reading.specs.Walked.{neither, walk-by, Of}
+use Rattle.reading.specs.Walked.{neither, walk-by, Of, walk-of}
 use Rattle.reading.proofs.Choose.{choose}
 use Rattle.reading.proofs.Matching.{Still, still-nil, still-neither, Parts, parts-append}
 use Rattle.reading.proofs.Spans.{Covers, covers-append, covers-one}
-use Rattle.reading.proofs.Queue.{walks, walks-append, Inner}
+use Rattle.reading.proofs.Queue.{walks, Inner}
 
 -- the dollars of a Str lie within it
 pub dollars-within : (v : View) (i j : ℕ) → i ≤ j → i + dollarsOf v i j ≤ j
@@ -87,7 +87,7 @@ module _ (Loose : ℕ → Type 0) (text : List ℕ) where
   out-puts es l at to n m s o c w k h =
       record {
         covers = covers-append Loose 0 (s .queue) at es to (o .covers) c;
-        parts = rw (walks-append (s .queue) es) (parts-append (walks (s .queue)) (s .openers) (walks es) (o .parts) w);
+        parts = rw (map-append walk-of (s .queue) es) (parts-append (walks (s .queue)) (s .openers) (walks es) (o .parts) w);
         few = omega (arith, length-append (s .queue) es, o .few, k);
         opens = omega (arith, o .opens, k);
         last = h;

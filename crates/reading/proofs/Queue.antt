@@ -1,7 +1,7 @@
 -- What the changes of the queue are to the walk: events put, one changed, the last shortened, a cut; and what each closing leaves.
 use Prim.Native.Nat.{ℕ, zero, suc, _+_, _-_, _≤_, _<_}
 use mathlib.Core.Path.{_≡_, refl, sym, ap, _∙_, subst}
-use mathlib.Core.List.{List, [], _∷_, _++_, map, append-assoc}
+use mathlib.Core.List.{List, [], _∷_, _++_, map, append-assoc, map-append}
 use native.Mathlib.Omega.{arith}
 use lib.Dec.{eqb}
 use lib.ListN.{length, getD, take, set, length-append}
@@ -23,10 +23,6 @@ use Rattle.reading.proofs.Spans.{length-amend-last}
 
 abbrev pub walks : List Event → List Walk
 walks q = map walk-of q
-
-pub walks-append : (a b : List Event) → walks (a ++ b) ≡ walks a ++ walks b
-walks-append [] b = refl
-walks-append (e ∷ a) b = ap (λ (l : List Walk). walk-of e ∷ l) (walks-append a b)
 
 pub walks-take : (n : ℕ) (q : List Event) → walks (take n q) ≡ take n (walks q)
 walks-take zero q = refl
@@ -173,7 +169,7 @@ inner-put w v q os e s n h =
       parted = rw (h .parted) (append-assoc (h .pre) (h .it ∷ h .post) (e ∷ []));
       place = h .place ∙ sym s;
       wraps = h .wraps;
-      plain = rw (walks-append (h .post) (e ∷ [])) (plain-append (walks (h .post)) (walk-of e ∷ []) (h .plain) (n, tt));
+      plain = rw (map-append walk-of (h .post) (e ∷ [])) (plain-append (walks (h .post)) (walk-of e ∷ []) (h .plain) (n, tt));
       rest = h .rest;
     }
 
@@ -235,8 +231,8 @@ inner-exit w q os n d a b l h =
     same =
         ap (λ (l : List Event). walks (l ++ (exit-of (getD q (w .event) d) a b ∷ []))) kept
         ∙ ap (λ (e : Event). walks ((h .pre ++ h .it ∷ some) ++ (exit-of e a b ∷ []))) found
-        ∙ walks-append (h .pre ++ h .it ∷ some) (exit-of (h .it) a b ∷ [])
-        ∙ ap (λ (l : List Walk). l ++ (last ∷ [])) (walks-append (h .pre) (h .it ∷ some))
+        ∙ map-append walk-of (h .pre ++ h .it ∷ some) (exit-of (h .it) a b ∷ [])
+        ∙ ap (λ (l : List Walk). l ++ (last ∷ [])) (map-append walk-of (h .pre) (h .it ∷ some))
         ∙ append-assoc (walks (h .pre)) (walk-of (h .it) ∷ walks some) (last ∷ [])
 
 -- a run opens: its enter stands behind the queue

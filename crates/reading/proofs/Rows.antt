@@ -62,14 +62,19 @@ others =
     ∷ one-line "````````````````````````````````````````````````````````````````````````````````````````````````````````````````````````````````````````````````````````````````````````````````````````````````````````````````````````````````````````````````````````````````" (event 1 0 256 ∷ []) ""
     ∷ []
 
+-- all of them at once, since they are computed by the same definitions
+computed : (map found worked ≡ map expected worked)
+    × (map blanks worked ≡ worked-blanks)
+    × (map found others ≡ map expected others)
+    × (map found sampled ≡ map expected sampled)
+unfolding worked worked-blanks others sampled bytes another-run among special blank alphanumeric punctuation inSet run lookup starts startOf braces hyphensOf begunBy escapedOf lexed texts foundBy takenOf nextBy peekBy closedAt uptoOf scans.mark marked autolinkOf symbolOf footnoteOf rawFormatOf comesOut firstFrom fewest dashesOf prev amend amend-last dollarsOf lastOf closed-by unclosed closing-of link-sort role-of is-run opens-closed-by opens-a row dashes taken opened-as kept cut format-ahead closed-with all-blank blank-content in-verbatim drops-at moved-on flag-of ended-at word words stretches pieces label-of shelved seek may-close takes span-with closes-span close-as blank-after may-open opens-or tried angle colon noted bracketed outside by-place on-token unless steps lines end-of drops-in drops-on step-drops steps-drop lines-drop flushed drained first-outside first-early handed-out judged outcome total numbers
+computed = (refl, refl, refl, refl)
+
 all-rows : (map found worked ≡ map expected worked) × (map blanks worked ≡ worked-blanks)
-unfolding worked worked-blanks bytes another-run among special blank alphanumeric punctuation inSet run lookup starts startOf braces hyphensOf begunBy escapedOf lexed texts foundBy takenOf nextBy peekBy closedAt uptoOf scans.mark marked autolinkOf symbolOf footnoteOf rawFormatOf comesOut firstFrom fewest dashesOf prev amend amend-last dollarsOf lastOf closed-by unclosed closing-of link-sort role-of is-run opens-closed-by opens-a row dashes taken opened-as kept cut format-ahead closed-with all-blank blank-content in-verbatim drops-at moved-on flag-of ended-at word words stretches pieces label-of shelved seek may-close takes span-with closes-span close-as blank-after may-open opens-or tried angle colon noted bracketed outside by-place on-token unless steps lines end-of drops-in drops-on step-drops steps-drop lines-drop flushed drained first-outside first-early handed-out judged outcome total numbers
-all-rows = (refl, refl)
+all-rows = (computed .0, computed .1)
 
 other-rows : map found others ≡ map expected others
-unfolding others bytes another-run among special blank alphanumeric punctuation inSet run lookup starts startOf braces hyphensOf begunBy escapedOf lexed texts foundBy takenOf nextBy peekBy closedAt uptoOf scans.mark marked autolinkOf symbolOf footnoteOf rawFormatOf comesOut firstFrom fewest dashesOf prev amend amend-last dollarsOf lastOf closed-by unclosed closing-of link-sort role-of is-run opens-closed-by opens-a row dashes taken opened-as kept cut format-ahead closed-with all-blank blank-content in-verbatim drops-at moved-on flag-of ended-at word words stretches pieces label-of shelved seek may-close takes span-with closes-span close-as blank-after may-open opens-or tried angle colon noted bracketed outside by-place on-token unless steps lines end-of drops-in drops-on step-drops steps-drop lines-drop flushed drained first-outside first-early handed-out judged outcome total numbers
-other-rows = refl
+other-rows = computed .2
 
 sampled-rows : map found sampled ≡ map expected sampled
-unfolding sampled bytes another-run among special blank alphanumeric punctuation inSet run lookup starts startOf braces hyphensOf begunBy escapedOf lexed texts foundBy takenOf nextBy peekBy closedAt uptoOf scans.mark marked autolinkOf symbolOf footnoteOf rawFormatOf comesOut firstFrom fewest dashesOf prev amend amend-last dollarsOf lastOf closed-by unclosed closing-of link-sort role-of is-run opens-closed-by opens-a row dashes taken opened-as kept cut format-ahead closed-with all-blank blank-content in-verbatim drops-at moved-on flag-of ended-at word words stretches pieces label-of shelved seek may-close takes span-with closes-span close-as blank-after may-open opens-or tried angle colon noted bracketed outside by-place on-token unless steps lines end-of drops-in drops-on step-drops steps-drop lines-drop flushed drained first-outside first-early handed-out judged outcome total numbers
-sampled-rows = refl
+sampled-rows = computed .3

@@ -1,7 +1,7 @@
 -- Accepted scans, dashes and dots: the invariant behind them.
 use Prim.Native.Nat.{ℕ, zero, suc, _+_, _-_, _*_, _≤_, _<_}
 use mathlib.Core.Path.{_≡_, refl, ap, subst}
-use mathlib.Core.List.{List, [], _∷_, _++_}
+use mathlib.Core.List.{List, [], _∷_, _++_, map-append}
 use mathlib.Core.Logic.{inl}
 use native.Mathlib.Nat.{mul-suc}
 use native.Mathlib.Omega.{arith}
@@ -14,10 +14,10 @@ use Rattle.reading.specs.declared.Inside.the-variants as inside
 use Rattle.reading.specs.Events.{nowhere, in-text, str, ellipsis, endash, emdash}
 use Rattle.reading.specs.Machine.{View, State, Here, puts, no-str}
 use Rattle.reading.specs.Atoms.{row, dashes, dots, autolinked, named}
-use Rattle.reading.specs.Walked.{neither, walk-by}
+use Rattle.reading.specs.Walked.{neither, walk-by, walk-of}
 use Rattle.reading.proofs.Matching.{Still, still-nil, still-neither, still-append, wraps-match, Wraps}
 use Rattle.reading.proofs.Spans.{Covers, gap-none, gap-same, covers-append}
-use Rattle.reading.proofs.Queue.{walks, walks-append}
+use Rattle.reading.proofs.Queue.{walks}
 use Rattle.reading.proofs.Good.{Out, out-puts, out-put, walk-neither}
 use Rattle.reading.proofs.Places.{HereOk, Fine, fine-at}
 use Rattle.reading.proofs.Containing.{good-out}
@@ -50,7 +50,7 @@ module _ (Loose : ℕ → Type 0) (text : List ℕ) where
         (covers-append Loose (v .base + h .from) ems (v .base + h .from + 3 * em) ens (v .base + h .to)
         (row-covers emdash 3 em (v .base + h .from) (v .base + h .from + 3 * em) refl)
         (row-covers endash 2 en (v .base + h .from + 3 * em) (v .base + h .to) (omega (arith, whole, k .long))))
-        (rw (walks-append ems ens) (still-append (walks ems) (walks ens) (row-still emdash 3 em _ (omega arith)) (row-still endash 2 en _ (omega arith))))
+        (rw (map-append walk-of ems ens) (still-append (walks ems) (walks ens) (row-still emdash 3 em _ (omega arith)) (row-still endash 2 en _ (omega arith))))
         (omega (arith, length-append ems ens, row-long emdash 3 em (v .base + h .from), row-long endash 2 en (v .base + h .from + 3 * em), whole, k .long))
         (inl refl)))
       where

@@ -3,15 +3,34 @@
 use Prim.Native.Nat.{ℕ, zero, suc, _+_, _-_, _≤_, _<_}
 use mathlib.Core.Path.{_≡_, refl, sym, ap, subst}
 use mathlib.Core.List.{List, [], _∷_, _++_, map}
-use mathlib.Core.Logic.{inl, inr}
+use mathlib.Core.Logic.{_⊎_, inl, inr, ⊎-elim}
 use native.Mathlib.Decide.{decLt}
 use native.Mathlib.Omega.{arith}
 use lib.ListN.{length, take, drop, take-append-drop}
+use Rattle.reading.specs.declared.Line.{Line}
 use Rattle.reading.specs.declared.Event.{Event}
 use Rattle.reading.specs.Events.{Home, becomes, becomes-to, shorter}
 use Rattle.reading.specs.Machine.{amend, amend-last}
 use Rattle.reading.specs.Verbatim.{span-of}
 use Rattle.reading.specs.Walked.{Of}
+
+-- a byte of one of two lists of lines
+pub of-left : (a b : List Line) (i : ℕ) → Of a i → Of (a ++ b) i
+unfolding Of
+of-left (l ∷ a) b i (inl x) = inl x
+of-left (l ∷ a) b i (inr x) = inr (of-left a b i x)
+of-left [] b i x = absurd x
+
+pub of-right : (a b : List Line) (i : ℕ) → Of b i → Of (a ++ b) i
+unfolding Of
+of-right [] b i x = x
+of-right (l ∷ a) b i x = inr (of-right a b i x)
+
+pub of-parts : (a b : List Line) (i : ℕ) → Of (a ++ b) i → Of a i ⊎ Of b i
+unfolding Of
+of-parts [] b i x = inr x
+of-parts (l ∷ a) b i (inl x) = inl (inl x)
+of-parts (l ∷ a) b i (inr x) = ⊎-elim (λ (y : Of a i). inl (inr y)) (λ (y : Of b i). inr y) (of-parts a b i x)
 
 module _ (Loose : ℕ → Type 0) where
   -- from a to before b no byte needs a span

@@ -139,8 +139,8 @@ module _ (x : Sheet) where
       cover : Covers Loose 0 (events x ls) (end-of ls 0)
       cover = drained-covers Loose 0 0 0 (read x ls .queue) (end-of ls 0) (gap-none Loose 0) (omega arith) (out .covers)
 
-      -- no span ends before it begins, none begins before the last one ended
-      pub ordered : Ordered 0 (events x ls)
+      -- no span ends before it begins, none begins before the last one ended, and none ends behind the last line's end
+      pub ordered : Ordered 0 (events x ls) (end-of ls 0)
       ordered = covers-ordered Loose 0 (events x ls) (end-of ls 0) cover
 
       -- each byte of a fed line is under one span, or is of a dropped blank and under none

@@ -11,7 +11,7 @@ use Rattle.reading.specs.declared.Line.{Line}
 use Rattle.reading.specs.declared.Event.{Event}
 use Rattle.reading.specs.Events.{Home, homeOf}
 use Rattle.reading.specs.Machine.{Sheet}
-use Rattle.reading.specs.Reading.{sheet, read, dropped}
+use Rattle.reading.specs.Reading.{end-of, sheet, read, dropped}
 use Rattle.reading.specs.Draining.{drain}
 use Rattle.reading.specs.Questions.{Rooms, Outcome, total, numbers, filled, label-room}
 
@@ -49,10 +49,10 @@ Matches (closing t ∷ es) (u ∷ ts) = (t ≡ u) × Matches es ts
 abbrev pub Walked : List Event → Type 0
 Walked es = Matches (map walk-of es) []
 
--- no span ends before it begins, and none begins before a, where the last one ended
-unfoldable pub Ordered : ℕ → List Event → Type 0
-Ordered a [] = Unit {0}
-Ordered a (e ∷ es) = (a ≤ e .start .0) × (e .start .0 ≤ e .end .0) × Ordered (e .end .0) es
+-- no span ends before it begins, none begins before a, where the last one ended, and none ends behind b
+unfoldable pub Ordered : ℕ → List Event → ℕ → Type 0
+Ordered a [] b = a ≤ b
+Ordered a (e ∷ es) b = (a ≤ e .start .0) × (e .start .0 ≤ e .end .0) × Ordered (e .end .0) es b
 
 -- a byte is of one of some lines: of the fed lines, or of the dropped blanks
 unfoldable pub Of : List Line → ℕ → Type 0
@@ -75,7 +75,7 @@ events x ls = drain (read x ls .queue)
 -- demand 3, as one claim of the whole list
 pub record Whole (x : Sheet) (ls : List Line) : Type 0 where
   pub walked : Walked (events x ls)
-  pub ordered : Ordered 0 (events x ls)
+  pub ordered : Ordered 0 (events x ls) (end-of ls 0)
   pub covered : Covered ls (dropped x ls) (events x ls)
   pub blanks : (i : ℕ) → Of (dropped x ls) i → blank (getD (x .text) i 0) ≡ true
   pub room : length (events x ls) ≤ total ls + 1
