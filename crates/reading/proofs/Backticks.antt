@@ -36,7 +36,7 @@ use Rattle.reading.specs.Walked.{walk-by, Of}
 use Rattle.reading.proofs.Choose.{choose, choose₂}
 use Rattle.reading.proofs.Matching.{Wraps, wraps-match, Parts}
 use Rattle.reading.proofs.Spans.{Covers, covers-append, covers-after, covers-amend, covers-cut, covers-same, covers-shorter, covers-one}
-use Rattle.reading.proofs.Spans.{of-parts, amend-last-at, length-amend, length-amend-last, take-few}
+use Rattle.reading.proofs.Spans.{of-parts, amend-last-end, length-amend, length-amend-last, take-few}
 use Rattle.reading.proofs.Queue.{walks, Inner, inner-put, inner-amend, inner-exit, inner-open}
 use Rattle.reading.proofs.Good.{Out, In, Good, GoodBy, Ends, LastOk, Blank, walk-neither}
 use Rattle.reading.proofs.Places.{HereOk, Fine, fine-at, sound-flagged, peek-sound, peek-place}
@@ -62,6 +62,15 @@ opened-wraps n h =
     Both : ℕ → Type 0
     Both k = Wraps (walk-by (enter k) h) (walk-by (enter k + 32) h)
 
+opened-enters : (n : ℕ) → (32 ≤ enter (opened-as n)) × (enter (opened-as n) < 64)
+unfolding opened-as
+opened-enters n =
+    choose Enters (eqb n 0) _ _ (λ e. (omega arith, omega arith))
+    (λ e. choose Enters (eqb n 1) _ _ (λ f. (omega arith, omega arith)) (λ f. (omega arith, omega arith)))
+  where
+    Enters : ℕ → Type 0
+    Enters k = (32 ≤ enter k) × (enter k < 64)
+
 drop-end : (n : ℕ) (q : List Event) → length q ≤ n → (text : List ℕ) → Blank text (drop n q)
 unfolding Of
 drop-end n q l text i o = absurd (subst (λ (x : List Event). Of (map span-of x) i) (drop-of-length-le q l) o)
@@ -82,7 +91,7 @@ module _ (Loose : ℕ → Type 0) (text : List ℕ) where
     )
     shortened n (inr e) = (
       subst (λ (q : List Event). Covers Loose 0 (amend-last (shorter n) q) (v .base + h .from - n)) (sym (e .parted))
-          (subst (λ (q : List Event). Covers Loose 0 q (v .base + h .from - n)) (sym (amend-last-at (shorter n) (e .front) (e .it)))
+          (subst (λ (q : List Event). Covers Loose 0 q (v .base + h .from - n)) (sym (amend-last-end (shorter n) (e .front) (e .it)))
           (covers-shorter Loose n 0 (e .front) (e .it) (v .base + h .from) (e .wide) (e .ends)
           (subst (λ (q : List Event). Covers Loose 0 q (v .base + h .from)) (e .parted) (g .covers)))),
       omega (arith, k .long),
@@ -94,7 +103,7 @@ module _ (Loose : ℕ → Type 0) (text : List ℕ) where
         fine-at Loose text v m (suc (h .from)) (h .to) (omega (arith, k .long)) (flagged true (h .cursor)) _ (sound-flagged (v .bytes) true (h .cursor) (k .sound)) (k .place)
         record {
           covers = covers-append Loose 0 q (v .base + h .from - n) (e ∷ []) (v .base + h .to) (c .0) (covers-one Loose e (c .1));
-          inner = inner-open _ n (s .queue) (s .openers) e refl (opened-wraps n nowhere) (g .parts);
+          inner = inner-open _ n (s .queue) (s .openers) e refl (opened-enters n) (opened-wraps n nowhere) (g .parts);
           few = omega (arith, length-append q (e ∷ []), long, g .few, k .long);
           opens = omega (arith, g .opens, k .long);
           low = omega arith;
@@ -124,7 +133,7 @@ blank-at [] j e h = absurd (omega arith)
 blank-at (b ∷ l) zero e h = and-eq-true-iff (blank b) (all-blank l) .0 e .0
 blank-at (b ∷ l) (suc j) e h = blank-at l j (and-eq-true-iff (blank b) (all-blank l) .0 e .1) (omega arith)
 
-drop-amend : (f : Event → Event) (i n : ℕ) (q : List Event) → i < n → drop n (amend f i q) ≡ drop n q
+pub drop-amend : (f : Event → Event) (i n : ℕ) (q : List Event) → i < n → drop n (amend f i q) ≡ drop n q
 unfolding amend
 drop-amend f i n [] l = refl
 drop-amend f i zero (e ∷ q) l = absurd (omega arith)
@@ -287,7 +296,7 @@ module _ (Loose : ℕ → Type 0) (text : List ℕ) (w : Verbatim) where
         fine-at Loose text v m (suc (h .from)) (h .to + 2 + n + 1) (omega (arith, k .long)) _ _ (fresh-sound (v .bytes) (h .to + 2 + n + 1) false (fit n refl)) refl
         (exits-out s q (s .openers) (v .base + h .from) (v .base + (h .to + 2 + n + 1)) (m + h .from) (m + (h .to + 2 + n + 1))
         (covers-amend Loose (enter raw-format) home (w .event) 0 (s .queue) (v .base + h .from) (g .covers))
-        (inner-amend w (s .queue) (s .openers) (enter raw-format) home (raw-wraps home) (g .inner))
+        (inner-amend w (s .queue) (s .openers) (enter raw-format) home (omega arith, omega arith) (raw-wraps home) (g .inner))
         (omega (arith, long, g .few)) (g .low) (omega (arith, long, g .high)) (omega (arith, k .long))
         (λ j o. told j (subst (λ (l : List Event). Of (map span-of l) j) (cut-amend w (becomes (enter raw-format) home) (s .queue) (g .low)) o))
         (omega (arith, g .opens, k .long)) (omega (arith, k .long)) _ refl refl refl)

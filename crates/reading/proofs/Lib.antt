@@ -6,12 +6,15 @@ pub mod Spans
 pub mod Matching
 pub mod Queue
 pub mod Good
+pub mod Named
 pub mod Tables
+pub mod Ends
 pub mod Places
 pub mod Containing
 pub mod Scanning
 pub mod Backticks
 pub mod Stepping
+pub mod Links
 pub mod Drains
 pub mod Feeding
 pub mod Theorems

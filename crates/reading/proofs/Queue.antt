@@ -153,6 +153,7 @@ pub record Inner (w : Verbatim) (q : List Event) (os : List Opener) : Type 0 whe
   pub post : List Event
   pub parted : q ≡ pre ++ it ∷ post
   pub place : length pre ≡ w .event
+  pub enters : (32 ≤ it .kind) × (it .kind < 64)
   pub wraps : Wraps (walk-of it) (walk-by (it .kind + 32) (homeOf it))
   pub plain : Plain (walks post)
   pub rest : Parts (walks pre) os
@@ -168,6 +169,7 @@ inner-put w v q os e s n h =
       post = h .post ++ (e ∷ []);
       parted = rw (h .parted) (append-assoc (h .pre) (h .it ∷ h .post) (e ∷ []));
       place = h .place ∙ sym s;
+      enters = h .enters;
       wraps = h .wraps;
       plain = rw (map-append walk-of (h .post) (e ∷ [])) (plain-append (walks (h .post)) (walk-of e ∷ []) (h .plain) (n, tt));
       rest = h .rest;
@@ -175,19 +177,30 @@ inner-put w v q os e s n h =
 
 pub inner-same : (w v : Verbatim) (q : List Event) (os : List Opener) → v .event ≡ w .event → Inner w q os → Inner v q os
 inner-same w v q os s h =
-    record { pre = h .pre; it = h .it; post = h .post; parted = h .parted; place = h .place ∙ sym s; wraps = h .wraps; plain = h .plain; rest = h .rest }
+    record {
+      pre = h .pre;
+      it = h .it;
+      post = h .post;
+      parted = h .parted;
+      place = h .place ∙ sym s;
+      enters = h .enters;
+      wraps = h .wraps;
+      plain = h .plain;
+      rest = h .rest;
+    }
 
 -- another enter in its place
-pub inner-amend : (w : Verbatim) (q : List Event) (os : List Opener) (kind : ℕ) (t : Home) → Wraps (walk-by kind t) (walk-by (kind + 32) t)
-    → Inner w q os → Inner w (amend (becomes kind t) (w .event) q) os
+pub inner-amend : (w : Verbatim) (q : List Event) (os : List Opener) (kind : ℕ) (t : Home) → (32 ≤ kind) × (kind < 64)
+    → Wraps (walk-by kind t) (walk-by (kind + 32) t) → Inner w q os → Inner w (amend (becomes kind t) (w .event) q) os
 unfolding amend
-inner-amend w q os kind t wr h =
+inner-amend w q os kind t en wr h =
     record {
       pre = h .pre;
       it = becomes kind t (h .it);
       post = h .post;
       parted = rw (h .parted, ← h .place) (amend-at (h .pre));
       place = h .place;
+      enters = en;
       wraps = wr;
       plain = h .plain;
       rest = h .rest;
@@ -196,6 +209,18 @@ inner-amend w q os kind t wr h =
     amend-at : (p : List Event) → amend (becomes kind t) (length p) (p ++ h .it ∷ h .post) ≡ p ++ becomes kind t (h .it) ∷ h .post
     amend-at [] = refl
     amend-at (e ∷ p) = ap (λ (l : List Event). e ∷ l) (amend-at p)
+
+-- it is the event at the opener's place
+pub inner-found : (w : Verbatim) (q : List Event) (os : List Opener) (d : Event) → (h : Inner w q os) → getD q (w .event) d ≡ h .it
+inner-found w q os d h =
+    ap (λ (l : List Event). getD l (w .event) d) (h .parted) ∙ getD-at (h .pre) (h .it) (h .post) d (w .event) (h .place)
+
+pub inner-enters : (w : Verbatim) (q : List Event) (os : List Opener) (d : Event) → Inner w q os
+    → (32 ≤ getD q (w .event) d .kind) × (getD q (w .event) d .kind < 64)
+inner-enters w q os d h = rw (inner-found w q os d h) (h .enters)
+
+pub inner-within : (w : Verbatim) (q : List Event) (os : List Opener) → Inner w q os → w .event < length q
+inner-within w q os h = omega (arith, ap (λ (l : List Event). length l) (h .parted), length-append (h .pre) (h .it ∷ h .post), h .place)
 
 -- the exit, behind n events of the queue, the enter among them
 pub inner-exit : (w : Verbatim) (q : List Event) (os : List Opener) (n : ℕ) (d : Event) (a b : ℕ) → w .event < n → Inner w q os
@@ -224,28 +249,26 @@ inner-exit w q os n d a b l h =
         ∙ ap (λ (k : ℕ). take k (h .pre ++ h .it ∷ h .post)) count
         ∙ take-append-add (h .pre) (h .it ∷ h .post) (suc (n - suc (w .event)))
 
-    found : getD q (w .event) d ≡ h .it
-    found = ap (λ (l : List Event). getD l (w .event) d) (h .parted) ∙ getD-at (h .pre) (h .it) (h .post) d (w .event) (h .place)
-
     same : walks (take n q ++ (exit-of (getD q (w .event) d) a b ∷ [])) ≡ walks (h .pre) ++ (walk-of (h .it) ∷ walks some ++ (last ∷ []))
     same =
         ap (λ (l : List Event). walks (l ++ (exit-of (getD q (w .event) d) a b ∷ []))) kept
-        ∙ ap (λ (e : Event). walks ((h .pre ++ h .it ∷ some) ++ (exit-of e a b ∷ []))) found
+        ∙ ap (λ (e : Event). walks ((h .pre ++ h .it ∷ some) ++ (exit-of e a b ∷ []))) (inner-found w q os d h)
         ∙ map-append walk-of (h .pre ++ h .it ∷ some) (exit-of (h .it) a b ∷ [])
         ∙ ap (λ (l : List Walk). l ++ (last ∷ [])) (map-append walk-of (h .pre) (h .it ∷ some))
         ∙ append-assoc (walks (h .pre)) (walk-of (h .it) ∷ walks some) (last ∷ [])
 
 -- a run opens: its enter stands behind the queue
-pub inner-open : (w : Verbatim) (n : ℕ) (q : List Event) (os : List Opener) (e : Event) → w .event ≡ length q
+pub inner-open : (w : Verbatim) (n : ℕ) (q : List Event) (os : List Opener) (e : Event) → w .event ≡ length q → (32 ≤ e .kind) × (e .kind < 64)
     → Wraps (walk-of e) (walk-by (e .kind + 32) (homeOf e)) → Parts (walks q) os → Inner w (amend-last (shorter n) q ++ e ∷ []) os
 unfolding Plain
-inner-open w n q os e l h p =
+inner-open w n q os e l en h p =
     record {
       pre = amend-last (shorter n) q;
       it = e;
       post = [];
       parted = refl;
       place = length-amend-last (shorter n) q ∙ sym l;
+      enters = en;
       wraps = h;
       plain = tt;
       rest = subst (λ (x : List Walk). Parts x os) (sym (walks-last n q)) p;

@@ -140,11 +140,11 @@ module _ (Loose : ℕ → Type 0) where
       covers-append a es (p .mid) (shorter n e ∷ []) (b - n) (p .first)
       (p .second .0, omega arith, subst (λ (m : ℕ). Gap (e .end .0 - n) (m - n)) z (gap-none (e .end .0 - n)))
 
-pub amend-last-at : (f : Event → Event) (es : List Event) (e : Event) → amend-last f (es ++ e ∷ []) ≡ es ++ f e ∷ []
+pub amend-last-end : (f : Event → Event) (es : List Event) (e : Event) → amend-last f (es ++ e ∷ []) ≡ es ++ f e ∷ []
 unfolding amend-last
-amend-last-at f [] e = refl
-amend-last-at f (g ∷ []) e = refl
-amend-last-at f (g ∷ h ∷ es) e = ap (λ (l : List Event). g ∷ l) (amend-last-at f (h ∷ es) e)
+amend-last-end f [] e = refl
+amend-last-end f (g ∷ []) e = refl
+amend-last-end f (g ∷ h ∷ es) e = ap (λ (l : List Event). g ∷ l) (amend-last-end f (h ∷ es) e)
 
 pub length-amend : (f : Event → Event) (i : ℕ) (es : List Event) → length (amend f i es) ≡ length es
 unfolding amend

@@ -1,6 +1,6 @@
 -- What the tables of tokens and openers keep to: a pair opens and closes the same container, or is two quotes; what stands alone neither opens
 -- nor closes; no token opens a link.
-use Prim.Native.Nat.{ℕ, _<_}
+use Prim.Native.Nat.{ℕ, _≤_, _<_}
 use mathlib.Core.Bool.{Bool, true, false}
 use native.Mathlib.Omega.{arith}
 use Rattle.lex.specs.declared.lex.Kind.{Kind}
@@ -72,6 +72,29 @@ unclosed-low sort.ReferenceLink = omega arith
 unclosed-low sort.ReferenceImage = omega arith
 unclosed-low sort.InlineLink = omega arith
 unclosed-low sort.InlineImage = omega arith
+
+-- every opener is closed by a mark, and 0 is none
+pub closed-some : (s : Sort) → 1 ≤ closed-by s
+unfolding closed-by
+closed-some sort.Span = omega arith
+closed-some sort.Image = omega arith
+closed-some sort.Strong = omega arith
+closed-some sort.BraceStrong = omega arith
+closed-some sort.Emphasis = omega arith
+closed-some sort.BraceEmphasis = omega arith
+closed-some sort.Superscript = omega arith
+closed-some sort.BraceSuperscript = omega arith
+closed-some sort.Subscript = omega arith
+closed-some sort.BraceSubscript = omega arith
+closed-some sort.Mark = omega arith
+closed-some sort.Delete = omega arith
+closed-some sort.Insert = omega arith
+closed-some sort.SingleQuoted = omega arith
+closed-some sort.DoubleQuoted = omega arith
+closed-some sort.ReferenceLink = omega arith
+closed-some sort.ReferenceImage = omega arith
+closed-some sort.InlineLink = omega arith
+closed-some sort.InlineImage = omega arith
 
 pub link-not-single : (image inline : Bool) → Single (closing-of (link-sort image inline)) → ⊥
 unfolding Single closing-of link-sort

@@ -5,6 +5,7 @@ pub mod Atoms
 pub mod Verbatim
 pub mod Labels
 pub mod Containers
+pub mod Naming
 pub mod Reading
 pub mod Draining
 pub mod Questions

@@ -1,0 +1,25 @@
+use borrow.Author.Needs.{needs}
+use native.Mathlib.Numerals.{add-one}
+use Rattle.rooms.proofs.Laws.{pushed}
+use Rattle.rooms.proofs.push.Statement.{statement}
+use Rattle.rooms.proofs.push.Tie as tie
+use Rattle.rooms.proofs.push.Reads as reads
+use Rattle.rooms.proofs.push.Lts as lts
+use Rattle.rooms.proofs.store.Reads as store-reads
+
+-- src/lib.rt:102:5
+store-requires : tie.Need-store-requires
+store-requires c κs = search needs
+
+-- src/lib.rt:98:1
+same-length : tie.Need-same-length
+same-length c = search needs
+
+-- src/lib.rt:98:1
+returns : tie.Need-returns
+returns c =
+    let e = c .before .before .before .before .before in
+    rw (c .before .before .store .ensures, add-one) (pushed (e .args .queue .now) (e .args .n) (e .args .e) (e .pre))
+
+pub push-spec : {M : Type 1} → statement M
+push-spec = tie.close (tie.spec store-requires same-length returns)

@@ -1,0 +1,42 @@
+use borrow.Author.Needs.{needs}
+use mathlib.Core.Path.{ap, _∙_}
+use Rattle.reading.specs.declared.Event.{Event}
+use Rattle.reading.specs.Events.{becomes-to}
+use Rattle.rooms.proofs.Laws.{replaced}
+use Rattle.rooms.specs.Records.{homeAs}
+use Rattle.rooms.proofs.set_kind_to.Statement.{statement}
+use Rattle.rooms.proofs.set_kind_to.Tie as tie
+use Rattle.rooms.proofs.set_kind_to.Reads as reads
+use Rattle.rooms.proofs.set_kind_to.Lts as lts
+use Rattle.rooms.proofs.event_at.Reads as event-at-reads
+use Rattle.rooms.proofs.event_of.Reads as event-of-reads
+use Rattle.rooms.proofs.store.Reads as store-reads
+
+-- src/lib.rt:139:9
+event-at-requires : tie.Need-event-at-requires
+event-at-requires c κs = search needs
+
+-- src/lib.rt:141:21
+event-of-requires : tie.Need-event-of-requires
+event-of-requires c κs = search needs
+
+-- src/lib.rt:141:5
+store-requires : tie.Need-store-requires
+store-requires c κs = search needs
+
+-- src/lib.rt:135:1
+same-length : tie.Need-same-length
+same-length c = search needs
+
+-- src/lib.rt:135:1
+returns : tie.Need-returns
+returns c n =
+    let e = c .before .before .before .before .before .before .before .before .before in
+    let a = e .args in
+    rw (c .before .before .store .ensures)
+    (replaced (a .queue .now) (a .i) (c .before .before .before .event-of .result) (e .pre) (becomes-to (a .kind) (homeAs (a .h)) (a .end .0))
+    (c .before .before .before .event-of .ensures ∙ ap (λ (x : Event). becomes-to (a .kind) (homeAs (a .h)) (a .end .0) x) (c .before .before .before .before .before .before .event-at .ensures)) n)
+
+pub set-kind-to-spec : {M : Type 1} → statement M
+set-kind-to-spec =
+    tie.close (tie.spec event-at-requires event-of-requires store-requires same-length returns)

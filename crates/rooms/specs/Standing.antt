@@ -1,0 +1,90 @@
+-- What the parser's numbers and rooms stand for: the state of the definition. Each function of the parser is told by it.
+use Prim.Native.Nat.{ℕ, _+_, _*_, _≤_}
+use mathlib.Core.Path.{_≡_}
+use mathlib.Core.List.{List}
+use lib.ListN.{length, take}
+use Rattle.lex.specs.declared.lex.Cursor.{Cursor}
+use Rattle.reading.specs.declared.Inside.{Inside}
+use Rattle.reading.specs.Machine.{View, State, Turn, Here}
+use Rattle.rooms.specs.declared.Parser.{Parser}
+use Rattle.rooms.specs.declared.Margin.{Margin}
+use Rattle.rooms.specs.declared.Span.{Span}
+use Rattle.rooms.specs.Records.{events, opens}
+
+-- of a parser with queue room q, opener room o and label room l
+abbrev pub stands : Parser → List ℕ → List ℕ → List ℕ → State
+stands p q o l =
+    record {
+      queue = events (p .events) q;
+      openers = opens (p .openers) o;
+      inside = p .inside;
+      last = p .last;
+      labels = take (p .labels) l;
+      fits = p .fits;
+      links = p .links;
+      refused = p .refused;
+    }
+
+abbrev pub turn : Parser → List ℕ → List ℕ → List ℕ → Turn
+turn p q o l = record { cursor = p .cursor; state = stands p q o l }
+
+-- another cursor, and another place as to verbatim
+abbrev pub moved : Parser → Cursor → Parser
+moved p c =
+    record {
+      cursor = c;
+      events = p .events;
+      openers = p .openers;
+      inside = p .inside;
+      last = p .last;
+      labels = p .labels;
+      fits = p .fits;
+      links = p .links;
+      refused = p .refused;
+    }
+
+abbrev pub insideOf : Parser → Inside → Parser
+insideOf p w =
+    record {
+      cursor = p .cursor;
+      events = p .events;
+      openers = p .openers;
+      inside = w;
+      last = p .last;
+      labels = p .labels;
+      fits = p .fits;
+      links = p .links;
+      refused = p .refused;
+    }
+
+-- a line
+abbrev pub viewed : Margin → List ℕ → View
+viewed m line = record { base = m .base; before = m .before; bytes = line }
+
+-- a token, with the cursor behind it
+abbrev pub here : Span → Parser → Here
+here h p = record { from = h .from; to = h .to; cursor = p .cursor }
+
+-- what a function does that leaves the label room: of p and the rooms q and o it makes r, q′ and o′
+pub record Changed (p : Parser) (q o : List ℕ) (r : Parser) (q′ o′ : List ℕ) (f : State → Turn) : Type 0 where
+  pub same : (l : List ℕ) → turn r q′ o′ l ≡ f (stands p q o l)
+  pub labels : r .labels ≡ p .labels
+
+-- what a function does
+pub record Stepped (p : Parser) (q o l : List ℕ) (r : Parser) (q′ o′ l′ : List ℕ) (f : State → Turn) : Type 0 where
+  pub same : turn r q′ o′ l′ ≡ f (stands p q o l)
+  pub labels : r .labels ≤ length l′
+
+-- a function that keeps the cursor
+abbrev pub staying : Parser → (State → State) → State → Turn
+staying p f s = record { cursor = p .cursor; state = f s }
+
+-- a token of a line, whose places are small
+pub record Fits (line : List ℕ) (m : Margin) (h : Span) : Type 0 where
+  pub ordered : h .from ≤ h .to
+  pub within : h .to ≤ length line
+  pub small : m .base + length line ≤ 1048576
+
+-- room for k more events
+abbrev pub Room : ℕ → Parser → List ℕ → Type 0
+Room k p q = (p .events + k) * 8 ≤ length q

@@ -1,0 +1,25 @@
+-- `tables::unclosed` meets its contract: the tests are the definition's.
+use mathlib.Core.Path.{sym, _∙_}
+use borrow.Author.Tests.{eq-eqb, ne-eqb}
+use Rattle.reading.specs.Tokens.{unclosed}
+use borrow.Author.Needs.{needs}
+use Rattle.tables.proofs.unclosed.Statement.{statement}
+use Rattle.tables.proofs.unclosed.Tie as tie
+
+closed-by-requires : tie.Need-closed-by-requires
+closed-by-requires c κs = search needs
+
+returns : tie.Need-returns
+unfolding unclosed
+returns c = rw (eq-eqb _ _ (sym (c .before .closed-by .ensures) ∙ c .if1 .taken), unclosed)
+
+returns-2 : tie.Need-returns-2
+unfolding unclosed
+returns-2 c = rw (ne-eqb _ _ (λ e. c .before .if1 .left (c .before .before .closed-by .ensures ∙ e)), eq-eqb _ _ (sym (c .before .before .closed-by .ensures) ∙ c .if2 .taken), unclosed)
+
+returns-3 : tie.Need-returns-3
+unfolding unclosed
+returns-3 c = rw (ne-eqb _ _ (λ e. c .before .if1 .left (c .before .before .closed-by .ensures ∙ e)), ne-eqb _ _ (λ e. c .if2 .left (c .before .before .closed-by .ensures ∙ e)), unclosed)
+
+pub unclosed-spec : {M : Type 1} → statement M
+unclosed-spec = tie.close (tie.spec closed-by-requires returns returns-2 returns-3)
