@@ -22,7 +22,7 @@ use Rattle.reading.proofs.Good.{Out, out-puts, out-put, walk-neither}
 use Rattle.reading.proofs.Places.{HereOk, Fine, fine-at}
 use Rattle.reading.proofs.Containing.{good-out}
 
-row-long : (kind w n at : ℕ) → length (row kind w n at) ≡ n
+pub row-long : (kind w n at : ℕ) → length (row kind w n at) ≡ n
 unfolding row
 row-long kind w zero at = refl
 row-long kind w (suc n) at = ap suc (row-long kind w n (at + w))

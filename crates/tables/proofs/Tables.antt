@@ -1,10 +1,10 @@
 -- The laws of the numbers of sorts, and of closing marks.
 use Prim.Native.Nat.{ℕ, zero, suc, _<_, _≤_}
 use mathlib.Core.Path.{_≡_, refl}
-use mathlib.Core.List.{[], _∷_}
-use mathlib.Core.Bool.{Bool, true, false, _||_}
+use mathlib.Core.List.{List, [], _∷_}
+use mathlib.Core.Bool.{false}
 use native.Mathlib.Omega.{arith}
-use lib.Dec.{eqb}
+use borrow.Author.Tests.{ne-eqb}
 use lib.ListN.{List·getD-eq-default}
 use Rattle.classes.specs.Classes.{among}
 use Rattle.reading.specs.declared.Sort.{Sort}
@@ -94,17 +94,19 @@ closed-some sort.ReferenceImage e = omega arith
 closed-some sort.InlineLink e = omega arith
 closed-some sort.InlineImage e = omega arith
 
--- six tests in a row, as the code and the definition put them
-six : (a b c d e f : Bool) → (((((a || b) || c) || d) || e) || f) ≡ (a || (b || (c || (d || (e || (f || false))))))
-six true b c d e f = refl
-six false true c d e f = refl
-six false false true d e f = refl
-six false false false true e f = refl
-six false false false false true f = refl
-six false false false false false true = refl
-six false false false false false false = refl
+-- a number that is none of some keys, as the last arm of a `match` on it knows: it is not among them
+abbrev pub Missed : Type 0 → List ℕ → ℕ → Type 0
+Missed N [] n = N
+Missed N (k ∷ ks) n = Missed (N × (n ≡ k → ⊥)) ks n
 
-pub two-ways : (n : ℕ)
-    → (((((eqb n 3 || eqb n 5) || eqb n 7) || eqb n 9) || eqb n 14) || eqb n 15) ≡ among (3 ∷ 5 ∷ 7 ∷ 9 ∷ 14 ∷ 15 ∷ []) n
+missed : (N : Type 0) (ks : List ℕ) (n : ℕ) → Missed N ks n → N × (among ks n ≡ false)
 unfolding among
-two-ways n = six (eqb n 3) (eqb n 5) (eqb n 7) (eqb n 9) (eqb n 14) (eqb n 15)
+missed N [] n h = (h, refl)
+missed N (k ∷ ks) n h = let r = missed (N × (n ≡ k → ⊥)) ks n h in (r .0 .0, rw (ne-eqb n k (r .0 .1)) (r .1))
+
+-- the marks that can open and close
+abbrev pub marks : List ℕ
+marks = 3 ∷ 5 ∷ 7 ∷ 9 ∷ 14 ∷ 15 ∷ []
+
+pub one-way : (n : ℕ) → Missed (Unit {0}) marks n → among marks n ≡ false
+one-way n h = missed (Unit {0}) marks n h .1

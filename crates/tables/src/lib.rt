@@ -3,7 +3,8 @@
 ghost use mathlib.Core.Path.{_≡_};
 ghost use Rattle.reading.specs.Containers;
 ghost use Rattle.reading.specs.Tokens;
-ghost use Rattle.reading.specs.Tokens.{role-of, closed-by, two-way, may-be-empty, is-single, closing-of, link-sort, opens-a, is-run, is-format, is-caret};
+ghost use Rattle.reading.specs.Tokens.{closed-by, two-way, may-be-empty, is-single, closing-of, link-sort};
+ghost use Rattle.reading.specs.Tokens.{role-of, opens-a, is-run, is-format, is-caret};
 ghost use Rattle.tables.specs.Tables.{otherOf, pairOf, linkOf, taken-as, number, sort-at};
 use lex::Delimiter;
 use lex::Kind;
@@ -54,8 +55,15 @@ pub fn closed_by(s: Sort) -> u32
 pub fn two_way(s: Sort) -> bool
     ensures { λ r. ⌜ r ≡ two-way s ⌝ }
 {
-    let c = closed_by(s);
-    (c == 3) | (c == 5) | (c == 7) | (c == 9) | (c == 14) | (c == 15)
+    match closed_by(s) {
+        3 => true,
+        5 => true,
+        7 => true,
+        9 => true,
+        14 => true,
+        15 => true,
+        _ => false,
+    }
 }
 
 // Spans and links.

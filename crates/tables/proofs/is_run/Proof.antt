@@ -13,7 +13,6 @@ unfolding is-run
 returns c = rw (c .enum-told .given .1)
 
 returns-2 : tie.Need-returns-2
-unfolding is-run
 returns-2 c = not-run (c .before .args .r) (c .match .keys2)
 
 pub is-run-spec : {M : Type 1} → statement M

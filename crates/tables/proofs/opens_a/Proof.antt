@@ -9,7 +9,6 @@ enum-known-r : tie.Need-enum-known-r
 enum-known-r c = search needs
 
 returns : tie.Need-returns
-unfolding opens-closed-by opens-a
 returns c = opens-none (c .before .args .c) (c .before .args .r) (c .match .keys2)
 
 enum-known-o : tie.Need-enum-known-o

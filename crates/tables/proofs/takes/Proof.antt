@@ -21,7 +21,6 @@ unfolding takes taken-as
 returns-2 c = rw (c .enum-told2 .given .1)
 
 returns-3 : tie.Need-returns-3
-unfolding takes taken-as
 returns-3 c = takes-none (c .before .args .r) (c .match .keys3)
 
 pub takes-spec : {M : Type 1} → statement M

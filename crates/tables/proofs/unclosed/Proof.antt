@@ -15,11 +15,15 @@ returns c = rw (eq-eqb _ _ (sym (c .before .closed-by .ensures) ∙ c .if1 .take
 
 returns-2 : tie.Need-returns-2
 unfolding unclosed
-returns-2 c = rw (ne-eqb _ _ (λ e. c .before .if1 .left (c .before .before .closed-by .ensures ∙ e)), eq-eqb _ _ (sym (c .before .before .closed-by .ensures) ∙ c .if2 .taken), unclosed)
+returns-2 c =
+    let e = c .before .before .closed-by .ensures in
+    rw (ne-eqb _ _ (λ x. c .before .if1 .left (e ∙ x)), eq-eqb _ _ (sym e ∙ c .if2 .taken), unclosed)
 
 returns-3 : tie.Need-returns-3
 unfolding unclosed
-returns-3 c = rw (ne-eqb _ _ (λ e. c .before .if1 .left (c .before .before .closed-by .ensures ∙ e)), ne-eqb _ _ (λ e. c .if2 .left (c .before .before .closed-by .ensures ∙ e)), unclosed)
+returns-3 c =
+    let e = c .before .before .closed-by .ensures in
+    rw (ne-eqb _ _ (λ x. c .before .if1 .left (e ∙ x)), ne-eqb _ _ (λ x. c .if2 .left (e ∙ x)), unclosed)
 
 pub unclosed-spec : {M : Type 1} → statement M
 unclosed-spec = tie.close (tie.spec closed-by-requires returns returns-2 returns-3)
