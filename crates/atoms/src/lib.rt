@@ -43,7 +43,7 @@ pub fn nowhere() -> Home
 }
 
 // A part of the text as a home.
-fn in_text(m: Margin, i: usize, j: usize) -> Home
+pub fn in_text(m: Margin, i: usize, j: usize) -> Home
     requires { ⌜ m .base + i < 2 ^ 32 ⌝ }
     requires { ⌜ m .base + j < 2 ^ 32 ⌝ }
     ensures { λ r. ⌜ homeAs r ≡ events.in-text (m .base + i) (m .base + j) ⌝ }

@@ -1,0 +1,51 @@
+use Rattle.containers.proofs.Trying.{open-told}
+use Rattle.rooms.specs.Standing.{stands, viewed, here}
+use Rattle.classes.specs.Classes.{blank}
+use mathlib.Core.Path.{_∙_, ap}
+use borrow.Author.Needs.{needs}
+use Rattle.containers.proofs.may_open.Statement.{statement}
+use Rattle.containers.proofs.may_open.Tie as tie
+use Rattle.containers.proofs.may_open.Reads as reads
+use Rattle.containers.proofs.may_open.Lts as lts
+use Rattle.atoms.proofs.byte_before.Reads as byte-before-reads
+use Rattle.classes.proofs.is_blank.Reads as is-blank-reads
+use Rattle.containers.proofs.blank_after.Reads as blank-after-reads
+use Rattle.tables.proofs.is_single.Reads as is-single-reads
+use Rattle.tables.proofs.two_way.Reads as two-way-reads
+
+byte-before-requires : tie.Need-byte-before-requires
+byte-before-requires c κs = search needs
+
+is-blank-requires : tie.Need-is-blank-requires
+is-blank-requires c κs = search needs
+
+two-way-requires : tie.Need-two-way-requires
+two-way-requires c κs = search needs
+
+blank-after-requires : tie.Need-blank-after-requires
+blank-after-requires c κs = search needs
+
+is-single-requires : tie.Need-is-single-requires
+is-single-requires c κs = search needs
+
+returns : tie.Need-returns
+returns c q os l =
+    let args = c .before .before .before .before .before .before .before .before .args in
+    let two-way = c .before .before .before .two-way in
+    let blank-after = c .before .before .blank-after in
+    let is-single = c .before .is-single in
+    let is-blank = c .before .before .before .before .is-blank in
+    let byte-before = c .before .before .before .before .before .byte-before in
+    open-told (viewed (args .m) (args .line .now)) (here (args .h) (args .p)) (stands (args .p) q os l) (args .sort) (two-way .result) (blank-after .result) (is-single .result) (is-blank .result)
+    (two-way .ensures) (blank-after .ensures (args .m) (args .h .from) (args .p .cursor)) (is-single .ensures) (is-blank .ensures ∙ ap blank (byte-before .ensures))
+
+pub may-open-spec : {M : Type 1} → statement M
+may-open-spec =
+    tie.close
+    (tie.spec
+    byte-before-requires
+    is-blank-requires
+    two-way-requires
+    blank-after-requires
+    is-single-requires
+    returns)

@@ -1,0 +1,26 @@
+use Rattle.rooms.specs.Standing.{moved as movedTo}
+use Rattle.lex.specs.declared.lex.Lexed.{Lexed}
+use mathlib.Core.Path.{_∙_, ap}
+use borrow.Author.Needs.{needs}
+use Rattle.containers.proofs.peeked.Statement.{statement}
+use Rattle.containers.proofs.peeked.Tie as tie
+use Rattle.containers.proofs.peeked.Reads as reads
+use Rattle.containers.proofs.peeked.Lts as lts
+use Rattle.lex.proofs.lex.Cursor.peek.Reads as peek-reads
+use Rattle.rooms.proofs.moved.Reads as moved-reads
+
+peek-requires : tie.Need-peek-requires
+peek-requires c κs = search needs
+
+moved-requires : tie.Need-moved-requires
+moved-requires c κs = search needs
+
+returns : tie.Need-returns
+returns c =
+    let moved = c .moved in
+    let args = c .before .before .before .before .before .args in
+    let peek = c .before .before .peek in
+    moved .ensures ∙ ap (λ (x : Lexed). movedTo (args .p) (x .cursor)) (peek .ensures)
+
+pub peeked-spec : {M : Type 1} → statement M
+peeked-spec = tie.close (tie.spec peek-requires moved-requires returns)

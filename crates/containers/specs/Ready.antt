@@ -1,0 +1,52 @@
+-- What a token's functions ask: a token of a line, a cursor behind it, and rooms for what the rest of the line can give.
+use Prim.Native.Nat.{ℕ, suc, _+_, _-_, _*_, _^_, _≤_, _<_}
+use mathlib.Core.Path.{_≡_}
+use mathlib.Core.List.{List, _∷_}
+use lib.ListN.{length}
+use Rattle.lex.specs.Lexer.{nextOf, peekOf}
+use Rattle.lex.proofs.Laws.{Sound}
+use Rattle.reading.specs.declared.Sort.{Sort}
+use Rattle.reading.specs.declared.Opener.{Opener}
+use Rattle.reading.specs.Events.{str}
+use Rattle.reading.specs.Machine.{View, Rules, Sheet, State, Turn, Here, put, with-openers}
+use Rattle.reading.specs.Containers.{closes-span}
+use Rattle.reading.specs.Naming.{Named}
+use mathlib.Core.Bool.{Bool}
+use Rattle.rooms.specs.declared.Parser.{Parser}
+use Rattle.rooms.specs.declared.Margin.{Margin}
+use Rattle.rooms.specs.declared.Span.{Span}
+use Rattle.rooms.specs.Records.{opens}
+
+pub record Ready (line : List ℕ) (m : Margin) (h : Span) (p : Parser) (q o : List ℕ) : Type 0 where
+  pub long : h .from < h .to
+  pub within : h .to ≤ length line
+  pub small : m .base + length line ≤ 1048576
+  pub place : p .cursor .pos ≡ h .to
+  pub sound : Sound line (p .cursor)
+  pub room : (p .events + (length line - h .from)) * 8 ≤ length q
+  pub few : p .events + (length line - h .from) ≤ 1048576
+  pub shallow : p .openers + (length line - h .from) ≤ 1048576
+  pub stack : (p .openers + (length line - h .from)) * 4 ≤ length o
+  pub named : Named (opens (p .openers) o) (p .events)
+
+-- the labels and links that a link's end asks for
+pub record Shelving (p : Parser) (l : List ℕ) : Type 0 where
+  pub labels : p .labels ≤ length l
+  pub room : length l < 2 ^ 32
+  pub links : p .links .0 + 1 < 2 ^ 32
+
+-- the sheet of a text, under any rules, with a label room
+abbrev pub sheetOf : Rules → List ℕ → List ℕ → Sheet
+sheetOf r text l = record { rules = r; text = text; room = length l }
+
+-- a bracket that is taken along, behind the Str of its `]`
+abbrev pub along-with : View → Span → Sort → ℕ → Parser → State → Turn
+along-with v h sort span p s =
+    record {
+      cursor = nextOf (v .bytes) (p .cursor) .cursor;
+      state = put v str (h .from) (h .to) (with-openers (record { sort = sort; event = length (s .queue); span = span } ∷ s .openers) s);
+    }
+
+-- a span's end, with the token peeked at
+abbrev pub span-closed : View → Here → Bool → Opener → State → Turn
+span-closed v h image o s = let p = peekOf (v .bytes) (h .cursor) in closes-span v h image o (p .cursor) (p .token) s

@@ -1,0 +1,3 @@
+pub mod Pouring
+pub mod Turns
+pub mod Handing
