@@ -8,7 +8,7 @@ use Rattle.lex.proofs.Laws.{Sound}
 use Rattle.reading.specs.declared.Sort.{Sort}
 use Rattle.reading.specs.declared.Opener.{Opener}
 use Rattle.reading.specs.Events.{str}
-use Rattle.reading.specs.Machine.{View, Rules, Sheet, State, Turn, Here, put, with-openers}
+use Rattle.reading.specs.Machine.{View, State, Turn, Here, put, with-openers}
 use Rattle.reading.specs.Containers.{closes-span}
 use Rattle.reading.specs.Naming.{Named}
 use mathlib.Core.Bool.{Bool}
@@ -34,10 +34,6 @@ pub record Shelving (p : Parser) (l : List ℕ) : Type 0 where
   pub labels : p .labels ≤ length l
   pub room : length l < 2 ^ 32
   pub links : p .links .0 + 1 < 2 ^ 32
-
--- the sheet of a text, under any rules, with a label room
-abbrev pub sheetOf : Rules → List ℕ → List ℕ → Sheet
-sheetOf r text l = record { rules = r; text = text; room = length l }
 
 -- a bracket that is taken along, behind the Str of its `]`
 abbrev pub along-with : View → Span → Sort → ℕ → Parser → State → Turn

@@ -10,7 +10,8 @@ ghost use Rattle.reading.specs.Naming.{Names};
 ghost use Rattle.reading.specs.Tokens.{closing-of};
 ghost use Rattle.reading.specs.Containers as said;
 ghost use Rattle.rooms.specs.Standing.{stands, viewed, here, moved, Changed, Stepped, Fits, Room, staying};
-ghost use Rattle.containers.specs.Ready.{Ready, along-with, span-closed};
+ghost use Rattle.links.specs.Linked.{sheetOf};
+ghost use Rattle.containers.specs.Ready.{Ready, Shelving, along-with, span-closed};
 use lex::Next;
 use reading::DelimEventKind;
 use reading::Marks;
@@ -202,4 +203,59 @@ fn opens_or(
         return open_as(line, m, h, sort, p, queue, openers);
     }
     atoms::put(line, m, k.alone, h, p, queue)
+}
+
+// What the end of each sort makes. Behind it the token is peeked at, unless a bracket was taken along.
+fn close_as(
+    text: &[u8],
+    line: &[u8],
+    m: Margin,
+    h: Span,
+    o: Opener,
+    p: Parser,
+    queue: &mut [u32],
+    openers: &mut [u32],
+    labels: &mut [u8],
+) -> Parser
+    requires { ⌜ Ready (now line) m h p (now queue) (now openers) ⌝ }
+    requires { ⌜ Shelving p (now labels) ⌝ }
+    requires { ⌜ Names (closing-of (o .sort)) o (p .events) ⌝ }
+    ensures { λ r. ⌜ ((rules : Rules) → Stepped p (now (queue .entry)) (now (openers .entry)) (now (labels .entry)) r (now (queue .exit)) (now (openers .exit)) (now (labels .exit)) (said.close-as (sheetOf rules (now (text .entry)) (now (labels .entry))) (viewed m (now (line .entry))) (here h p) o (closing-of (o .sort)))) ⌝ }
+{
+    let sort = o.sort;
+    match tables::closing_of(sort) {
+        DelimEventKind::Pair(pair) => peeked(line, closes_pair(m, h, pair, o, p, queue)),
+        DelimEventKind::Span(image) => closes_span(line, m, h, image, o, p, queue, openers),
+        DelimEventKind::Link(t) => {
+            peeked(line, links::closes_link(text, m, h, t, o, p, queue, labels))
+        }
+    }
+}
+
+// A token closes the newest opener that it can close, with which all newer ones are discarded; or opens; or is what it is alone.
+pub fn container(
+    text: &[u8],
+    line: &[u8],
+    m: Margin,
+    h: Span,
+    k: Marks,
+    p: Parser,
+    queue: &mut [u32],
+    openers: &mut [u32],
+    labels: &mut [u8],
+) -> Parser
+    requires { ⌜ Ready (now line) m h p (now queue) (now openers) ⌝ }
+    requires { ⌜ Shelving p (now labels) ⌝ }
+    ensures { λ r. ⌜ ((rules : Rules) → Stepped p (now (queue .entry)) (now (openers .entry)) (now (labels .entry)) r (now (queue .exit)) (now (openers .exit)) (now (labels .exit)) (said.container (sheetOf rules (now (text .entry)) (now (labels .entry))) (viewed m (now (line .entry))) (here h p) k)) ⌝ }
+{
+    let Found::At(i) = rooms::seek(openers, p.openers, k.closes) else {
+        return opens_or(line, m, h, k, p, queue, openers);
+    };
+    let o = rooms::opener_at(openers, i);
+    if may_close(line, m, h, o, p) {
+        let mut cut = p;
+        cut.openers = i;
+        return close_as(text, line, m, h, o, cut, queue, openers, labels);
+    }
+    opens_or(line, m, h, k, p, queue, openers)
 }

@@ -1,0 +1,185 @@
+-- The close of each sort, and a token tried as a closer, then as an opener, then alone.
+use Prim.Native.Nat.{ℕ, suc, _+_, _-_, _*_, _≤_, _<_}
+use mathlib.Core.Path.{_≡_, refl, sym, ap, _∙_, subst}
+use mathlib.Core.List.{List, [], _∷_}
+use mathlib.Core.Bool.{Bool, true, false}
+use native.Mathlib.Omega.{arith}
+use lib.ListN.{length}
+use Rattle.lex.specs.declared.lex.Cursor.{Cursor}
+use Rattle.lex.specs.Lexer.{peekOf}
+use Rattle.reading.specs.declared.Opener.{Opener}
+use Rattle.reading.specs.declared.Marks.{Marks}
+use Rattle.reading.specs.declared.Pair.{Pair}
+use Rattle.reading.specs.declared.Target.{Target}
+use Rattle.reading.specs.declared.DelimEventKind.{DelimEventKind}
+use Rattle.reading.specs.declared.DelimEventKind.the-variants as makes
+use Rattle.reading.specs.declared.Sort.{Sort}
+use Rattle.reading.specs.declared.Sort.the-variants as sort
+use Rattle.reading.specs.Machine.{View, Rules, Sheet, State, Turn}
+use Rattle.reading.specs.Tokens.{closing-of}
+use Rattle.reading.specs.Containers.{seek, may-close, closes-pair, close-as, opens-or, tried, container}
+use Rattle.reading.specs.Naming.{Names, Named}
+use Rattle.reading.proofs.Named.{named-seek}
+use Rattle.rooms.specs.declared.Parser.{Parser}
+use Rattle.rooms.specs.declared.Margin.{Margin}
+use Rattle.rooms.specs.declared.Span.{Span}
+use Rattle.rooms.specs.declared.Found.{Found}
+use Rattle.rooms.specs.declared.Found.the-variants.{At, Nothing}
+use Rattle.rooms.specs.Records.{openerAt, opens, place}
+use Rattle.rooms.specs.Standing.{stands, viewed, here, moved, staying, Changed, Stepped}
+use Rattle.rooms.proofs.Search.{found-at, place-none}
+use Rattle.rooms.proofs.Changing.{changed-cursor, changed-stepped}
+use Rattle.links.specs.Linked.{linked, sheetOf}
+use Rattle.containers.specs.Ready.{Ready, Shelving, span-closed}
+use Rattle.containers.proofs.Trying.{counting}
+
+-- what an opener names, by what its end makes
+pub named-pair : (x : Opener) (n : ℕ) (d : DelimEventKind) (k : Pair) → Names d x n → d ≡ makes.Pair k → x .event < n
+unfolding Names
+named-pair x n d k h e = subst (λ (y : DelimEventKind). Names y x n) e h
+
+pub named-span : (x : Opener) (n : ℕ) (d : DelimEventKind) (i : Bool) → Names d x n → d ≡ makes.Span i → x .event < n
+unfolding Names
+named-span x n d i h e = subst (λ (y : DelimEventKind). Names y x n) e h
+
+pub named-link : (x : Opener) (n : ℕ) (d : DelimEventKind) (t : Target) → Names d x n → d ≡ makes.Link t → (x .span + 2 ≤ x .event) × (x .event < n)
+unfolding Names
+named-link x n d t h e = subst (λ (y : DelimEventKind). Names y x n) e h
+
+pub named-event : (x : Opener) (n : ℕ) (d : DelimEventKind) → Names d x n → x .event < n
+unfolding Names
+named-event x n (makes.Pair k) h = h
+named-event x n (makes.Span i) h = h
+named-event x n (makes.Link t) h = h .1
+
+-- a link's container is one of four
+small-by : DelimEventKind → Type 0
+small-by (makes.Pair k) = Unit {0}
+small-by (makes.Span i) = Unit {0}
+small-by (makes.Link t) = t .container < 32
+
+small-of : (s : Sort) → small-by (closing-of s)
+unfolding closing-of small-by
+small-of sort.Span = tt
+small-of sort.Image = tt
+small-of sort.Strong = tt
+small-of sort.BraceStrong = tt
+small-of sort.Emphasis = tt
+small-of sort.BraceEmphasis = tt
+small-of sort.Superscript = tt
+small-of sort.BraceSuperscript = tt
+small-of sort.Subscript = tt
+small-of sort.BraceSubscript = tt
+small-of sort.Mark = tt
+small-of sort.Delete = tt
+small-of sort.Insert = tt
+small-of sort.SingleQuoted = tt
+small-of sort.DoubleQuoted = tt
+small-of sort.ReferenceLink = omega arith
+small-of sort.ReferenceImage = omega arith
+small-of sort.InlineLink = omega arith
+small-of sort.InlineImage = omega arith
+
+pub link-small : (s : Sort) (t : Target) → closing-of s ≡ makes.Link t → t .container < 32
+unfolding small-by
+link-small s t e = subst small-by e (small-of s)
+
+-- the close of each sort
+module _ (m : Margin) (text line : List ℕ) (h : Span) (x : Opener) (p : Parser) (q o l : List ℕ) (sh : Shelving p l) (rules : Rules) where
+  abbrev closing : DelimEventKind → State → Turn
+  closing d = close-as (sheetOf rules text l) (viewed m line) (here h p) x d
+
+  as-it-is : (d : DelimEventKind) → closing-of (x .sort) ≡ d → (r : Parser) (q′ o′ l′ : List ℕ) → Stepped p q o l r q′ o′ l′ (closing d)
+      → Stepped p q o l r q′ o′ l′ (closing (closing-of (x .sort)))
+  as-it-is d e r q′ o′ l′ s = subst (λ (y : DelimEventKind). Stepped p q o l r q′ o′ l′ (closing y)) (sym e) s
+
+  pub pair-step : (k : Pair) → closing-of (x .sort) ≡ makes.Pair k → (r : Parser) (q′ : List ℕ)
+      → Changed p q o r q′ o (staying p (closes-pair (viewed m line) (here h p) (k .first) (k .second) x))
+      → (t : Parser) → t ≡ moved r (peekOf line (r .cursor) .cursor) → Stepped p q o l t q′ o l (closing (closing-of (x .sort)))
+  unfolding close-as
+  pair-step k e r q′ c t ist =
+      as-it-is (makes.Pair k) e t q′ o l
+      (subst (λ (y : Parser). Stepped p q o l y q′ o l (closing (makes.Pair k))) (sym ist)
+      record {
+        same = ap (λ (a : Turn). record { cursor = peekOf line (a .cursor) .cursor; state = a .state }) (c .same l);
+        labels = omega (arith, c .labels, sh .labels);
+      })
+
+  pub span-step : (image : Bool) → closing-of (x .sort) ≡ makes.Span image → (r : Parser) (q′ o′ : List ℕ)
+      → Changed p q o r q′ o′ (span-closed (viewed m line) (here h p) image x) → Stepped p q o l r q′ o′ l (closing (closing-of (x .sort)))
+  unfolding close-as
+  span-step image e r q′ o′ c =
+      as-it-is (makes.Span image) e r q′ o′ l record { same = c .same l; labels = omega (arith, c .labels, sh .labels) }
+
+  pub link-as : (t : Target) → closing-of (x .sort) ≡ makes.Link t → (r : Parser) (q′ l′ : List ℕ)
+      → Stepped p q o l r q′ o l′ (staying p (linked rules text l (viewed m line) (here h p) t x))
+      → (z : Parser) → z ≡ moved r (peekOf line (r .cursor) .cursor) → Stepped p q o l z q′ o l′ (closing (closing-of (x .sort)))
+  unfolding close-as
+  link-as t e r q′ l′ s z isz =
+      as-it-is (makes.Link t) e z q′ o l′
+      (subst (λ (y : Parser). Stepped p q o l y q′ o l′ (closing (makes.Link t))) (sym isz)
+      record {
+        same = ap (λ (a : Turn). record { cursor = peekOf line (a .cursor) .cursor; state = a .state }) (s .same);
+        labels = s .labels;
+      })
+
+-- a token tried
+module _ (m : Margin) (text line : List ℕ) (h : Span) (k : Marks) (p : Parser) (q o l : List ℕ) (f : Found)
+    (isf : f ≡ place (seek (k .closes) (opens (p .openers) o))) where
+  pub none-step : f ≡ Nothing → p .labels ≤ length l → (r : Parser) (q′ o′ : List ℕ)
+      → Changed p q o r q′ o′ (staying p (opens-or (viewed m line) (here h p) (k .alone) (k .opens)))
+      → (rules : Rules) → Stepped p q o l r q′ o′ l (container (sheetOf rules text l) (viewed m line) (here h p) k)
+  unfolding tried
+  none-step e fits r q′ o′ c rules =
+      record {
+        same = c .same l ∙ rw (place-none (seek (k .closes) (opens (p .openers) o)) (sym isf ∙ e));
+        labels = omega (arith, c .labels, fits);
+      }
+
+  module _ (i : ℕ) (e : f ≡ At i) where
+    found : (i < p .openers) × (seek (k .closes) (opens (p .openers) o) ≡ openerAt o i ∷ opens i o)
+    found = found-at o (k .closes) (p .openers) i (sym isf ∙ e)
+
+    pub found-within : i < p .openers
+    found-within = found .0
+
+    named-there : Named (opens (p .openers) o) (p .events) → Named (openerAt o i ∷ opens i o) (p .events)
+    named-there w = subst (λ (os : List Opener). Named os (p .events)) (found .1) (named-seek (k .closes) (opens (p .openers) o) (p .events) w)
+
+    module _ (x : Opener) (isx : x ≡ openerAt o i) where
+      pub found-names : Named (opens (p .openers) o) (p .events) → Names (closing-of (x .sort)) x (p .events)
+      unfolding Named
+      found-names w = subst (λ (y : Opener). Names (closing-of (y .sort)) y (p .events)) (sym isx) (named-there w .0)
+
+      -- the newer openers are discarded
+      pub found-ready : Ready line m h p q o → Ready line m h (counting p i) q o
+      unfolding Named
+      found-ready w =
+          record {
+            long = w .long;
+            within = w .within;
+            small = w .small;
+            place = w .place;
+            sound = w .sound;
+            room = w .room;
+            few = w .few;
+            shallow = omega (arith, found .0, w .shallow);
+            stack = omega (arith, found .0, w .stack);
+            named = named-there (w .named) .1;
+          }
+
+      sought : seek (k .closes) (opens (p .openers) o) ≡ x ∷ opens i o
+      sought = found .1 ∙ ap (λ (y : Opener). y ∷ opens i o) (sym isx)
+
+      pub closed-step : may-close (viewed m line) (here h p) (stands p q o l) x ≡ true → (rules : Rules) (r : Parser) (q′ o′ l′ : List ℕ)
+          → Stepped (counting p i) q o l r q′ o′ l′ (close-as (sheetOf rules text l) (viewed m line) (here h p) x (closing-of (x .sort)))
+          → Stepped p q o l r q′ o′ l′ (container (sheetOf rules text l) (viewed m line) (here h p) k)
+      unfolding tried
+      closed-step t rules r q′ o′ l′ s = record { same = s .same ∙ sym (rw (sought, t, tried)); labels = s .labels }
+
+      pub barred-step : may-close (viewed m line) (here h p) (stands p q o l) x ≡ false → p .labels ≤ length l → (r : Parser) (q′ o′ : List ℕ)
+          → Changed p q o r q′ o′ (staying p (opens-or (viewed m line) (here h p) (k .alone) (k .opens)))
+          → (rules : Rules) → Stepped p q o l r q′ o′ l (container (sheetOf rules text l) (viewed m line) (here h p) k)
+      unfolding tried
+      barred-step t fits r q′ o′ c rules =
+          record { same = c .same l ∙ sym (rw (sought, t, tried)); labels = omega (arith, c .labels, fits) }
