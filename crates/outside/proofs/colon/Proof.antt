@@ -1,0 +1,92 @@
+use Rattle.outside.proofs.Ahead.{scan-within, colon-else, colon-some}
+use Rattle.scan.proofs.Laws.{symbol-some}
+use Rattle.links.specs.Linked.{sheetOf}
+use Rattle.rooms.specs.Standing.{viewed, here}
+use native.Mathlib.Omega.{arith}
+use lib.ListN.{drop}
+use mathlib.Core.Path.{sym, _∙_}
+use borrow.Author.Needs.{needs}
+use Rattle.outside.proofs.colon.Statement.{statement}
+use Rattle.outside.proofs.colon.Tie as tie
+use Rattle.outside.proofs.colon.Reads as reads
+use Rattle.outside.proofs.colon.Lts as lts
+use Rattle.atoms.proofs.named.Reads as named-reads
+use Rattle.containers.proofs.container.Reads as container-reads
+use Rattle.outside.proofs.plain.Reads as plain-reads
+use Rattle.scan.proofs.ahead_symbol.Reads as ahead-symbol-reads
+
+ahead-symbol-requires : tie.Need-ahead-symbol-requires
+ahead-symbol-requires c κs = search needs
+
+enum-known-n : tie.Need-enum-known-n
+enum-known-n c = search needs
+
+enum-told : tie.Need-enum-told
+enum-told c = search needs
+
+plain-requires : tie.Need-plain-requires
+plain-requires c κs = search needs
+
+container-requires : tie.Need-container-requires
+container-requires c κs = search needs
+
+same-length : tie.Need-same-length
+same-length c = search needs
+
+same-length-2 : tie.Need-same-length-2
+same-length-2 c = search needs
+
+same-length-3 : tie.Need-same-length-3
+same-length-3 c = search needs
+
+returns : tie.Need-returns
+returns c rules =
+    let args = c .before .before .before .before .before .before .before .before .before .before .before .before .before .before .before .before .before .before .before .args in
+    let container = c .before .before .before .before .before .before .container in
+    let ahead-symbol = c .before .before .before .before .before .before .before .before .before .before .before .before .before .ahead-symbol in
+    let enum-told = c .before .before .before .before .before .before .before .before .before .before .before .enum-told in
+    let plain = c .before .before .before .before .before .before .before .before .before .before .plain in
+    colon-else (sheetOf rules (args .text .now) (args .labels .now)) (viewed (args .m) (args .line .now)) (here (args .h) (args .p)) (args .p) (args .queue .now) (args .openers .now) (args .labels .now) (container .result) (container .last .1 .1 .1 .1 .1 .1 .0) (container .last .1 .1 .1 .1 .1 .1 .1 .0) (container .last .1 .1 .1 .1 .1 .1 .1 .1 .0)
+    _ (sym (ahead-symbol .ensures) ∙ enum-told .given .1) (plain .result) (plain .ensures) (container .ensures rules)
+
+named-requires : tie.Need-named-requires
+named-requires c κs =
+    let pre = c .before .before .before .before .before .before .before .before .before .before .pre in
+    let ahead-symbol = c .before .before .before .before .ahead-symbol in
+    let n = c .before .before .n in
+    let args = c .before .before .before .before .before .before .before .before .before .before .args in
+    let r = pre .0 in
+    let e = sym (ahead-symbol .ensures) ∙ n .given .1 in
+    let s = drop (args .h .to) (args .line .now) in
+    let w = scan-within (args .line .now) (args .h .to) _ (symbol-some s _ e .within) (r .within) in
+    (omega (arith, r .long), (omega (arith, w, r .small), omega (arith, w, r .room, r .long)))
+
+same-length-4 : tie.Need-same-length-4
+same-length-4 c = search needs
+
+returns-2 : tie.Need-returns-2
+returns-2 c rules =
+    let args = c .before .before .before .before .before .before .before .before .before .before .before .before .before .args in
+    let named = c .before .before .named in
+    let pre = c .before .before .before .before .before .before .before .before .before .before .before .before .before .pre in
+    let ahead-symbol = c .before .before .before .before .before .before .before .ahead-symbol in
+    let n = c .before .before .before .before .before .n in
+    colon-some (sheetOf rules (args .text .now) (args .labels .now)) (viewed (args .m) (args .line .now)) (here (args .h) (args .p)) (args .p) (args .queue .now) (args .openers .now) (args .labels .now) (named .result) (named .last .1 .1 .1 .1 .1 .0) (pre .1 .labels) _
+    _ (sym (ahead-symbol .ensures) ∙ n .given .1) (named .ensures (args .openers .now) (args .line .now))
+
+pub colon-spec : {M : Type 1} → statement M
+colon-spec =
+    tie.close
+    (tie.spec
+    ahead-symbol-requires
+    enum-known-n
+    enum-told
+    plain-requires
+    container-requires
+    same-length
+    same-length-2
+    same-length-3
+    returns
+    named-requires
+    same-length-4
+    returns-2)

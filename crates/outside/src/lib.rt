@@ -1,0 +1,133 @@
+// A token outside verbatim, in the order of the source's `parse_event`: backticks, a bare brace, the scans ahead, containers, dots and dashes.
+ghost use mathlib.Core.Path.{_≡_};
+ghost use mathlib.Core.List.{List};
+ghost use Prim.Native.Nat.{ℕ, _+_, _-_, _*_, _^_, _≤_, _<_};
+ghost use lib.ListN.{length, drop};
+ghost use Rattle.scan.specs.Scans.{autolinkOf, symbolOf, footnoteOf};
+ghost use Rattle.lex.specs.Lexer.{peekOf};
+ghost use Rattle.reading.specs.Tokens as tokens;
+ghost use Rattle.reading.specs.Machine.{Rules};
+ghost use Rattle.reading.specs.Reading as said;
+ghost use Rattle.rooms.specs.Standing.{viewed, here, Stepped};
+ghost use Rattle.links.specs.Linked.{sheetOf};
+ghost use Rattle.containers.specs.Ready.{Ready, Shelving};
+ghost use Rattle.outside.specs.Outside.{refusing, bracketing, Ended};
+use lex::Next;
+use reading::Marks;
+use reading::Opens;
+use reading::Place;
+use reading::Refused;
+use reading::Role;
+use reading::Sort;
+use rooms::Margin;
+use rooms::Parser;
+use rooms::Span;
+use scan::Ahead;
+
+// A token that opens and closes nothing.
+fn plain(kind: u32) -> Marks
+    ensures { λ r. ⌜ r ≡ tokens.plain kind ⌝ }
+{
+    Marks {
+        opens: Opens::None,
+        closes: 0,
+        alone: kind,
+    }
+}
+
+// `[` and `[^` open a span.
+fn bracket() -> Marks
+    ensures { λ r. ⌜ r ≡ tokens.bracket ⌝ }
+{
+    Marks {
+        opens: Opens::Some(Sort::Span),
+        closes: 0,
+        alone: 1,
+    }
+}
+
+// `<`: an autolink if the scan accepts.
+fn angle(text: &[u8], line: &[u8], m: Margin, h: Span, p: Parser, queue: &mut [u32], openers: &mut [u32], labels: &mut [u8]) -> Parser
+    requires { ⌜ Ready (now line) m h p (now queue) (now openers) ⌝ }
+    requires { ⌜ Shelving p (now labels) ⌝ }
+    ensures { λ r. ⌜ ((rules : Rules) → Stepped p (now (queue .entry)) (now (openers .entry)) (now (labels .entry)) r (now (queue .exit)) (now (openers .exit)) (now (labels .exit)) (said.angle (sheetOf rules (now (text .entry)) (now (labels .entry))) (viewed m (now (line .entry))) (here h p) (autolinkOf (drop (h .to) (now (line .entry)))))) ⌝ }
+{
+    let Ahead::Some(n) = scan::ahead_autolink(line, h.to) else {
+        return containers::container(text, line, m, h, plain(1), p, queue, openers, labels);
+    };
+    atoms::autolinked(m, h, n, p, queue)
+}
+
+// `:`: a symbol if the scan accepts.
+fn colon(text: &[u8], line: &[u8], m: Margin, h: Span, p: Parser, queue: &mut [u32], openers: &mut [u32], labels: &mut [u8]) -> Parser
+    requires { ⌜ Ready (now line) m h p (now queue) (now openers) ⌝ }
+    requires { ⌜ Shelving p (now labels) ⌝ }
+    ensures { λ r. ⌜ ((rules : Rules) → Stepped p (now (queue .entry)) (now (openers .entry)) (now (labels .entry)) r (now (queue .exit)) (now (openers .exit)) (now (labels .exit)) (said.colon (sheetOf rules (now (text .entry)) (now (labels .entry))) (viewed m (now (line .entry))) (here h p) (symbolOf (drop (h .to) (now (line .entry)))))) ⌝ }
+{
+    let Ahead::Some(n) = scan::ahead_symbol(line, h.to) else {
+        return containers::container(text, line, m, h, plain(1), p, queue, openers, labels);
+    };
+    atoms::named(m, h, 13, n, p, queue)
+}
+
+// `[^`: a footnote reference if the scan accepts; otherwise one opener of two bytes.
+fn noted(text: &[u8], line: &[u8], m: Margin, h: Span, p: Parser, queue: &mut [u32], openers: &mut [u32], labels: &mut [u8]) -> Parser
+    requires { ⌜ Ready (now line) m h p (now queue) (now openers) ⌝ }
+    requires { ⌜ Shelving p (now labels) ⌝ }
+    ensures { λ r. ⌜ ((rules : Rules) → Stepped p (now (queue .entry)) (now (openers .entry)) (now (labels .entry)) r (now (queue .exit)) (now (openers .exit)) (now (labels .exit)) (said.noted (sheetOf rules (now (text .entry)) (now (labels .entry))) (viewed m (now (line .entry))) (here h p) (footnoteOf (drop (h .to) (now (line .entry)))))) ⌝ }
+{
+    let Ahead::Some(n) = scan::ahead_footnote(line, h.to) else {
+        return containers::container(text, line, m, h, bracket(), p, queue, openers, labels);
+    };
+    atoms::named(m, h, 14, n, p, queue)
+}
+
+// `[`: the next token is peeked at; with `^` behind it, and not `^}`, the two are one token.
+fn bracketed(text: &[u8], line: &[u8], m: Margin, h: Span, p: Parser, queue: &mut [u32], openers: &mut [u32], labels: &mut [u8]) -> Parser
+    requires { ⌜ Ready (now line) m h p (now queue) (now openers) ⌝ }
+    requires { ⌜ Shelving p (now labels) ⌝ }
+    ensures { λ r. ⌜ ((rules : Rules) → Stepped p (now (queue .entry)) (now (openers .entry)) (now (labels .entry)) r (now (queue .exit)) (now (openers .exit)) (now (labels .exit)) (bracketing (sheetOf rules (now (text .entry)) (now (labels .entry))) (viewed m (now (line .entry))) (here h p))) ⌝ }
+{
+    let c = p.cursor;
+    let ahead = c.peek(line);
+    let held = ahead.cursor;
+    let next = ahead.token;
+    let out = rooms::moved(p, held);
+    let Next::Some(t) = next else {
+        return containers::container(text, line, m, h, bracket(), out, queue, openers, labels);
+    };
+    let kind = t.kind;
+    if tables::is_caret(tables::role_of(kind)) {
+        let lexed = held.next(line);
+        let behind = lexed.cursor;
+        let both = Span {
+            from: h.from,
+            to: h.to + t.len,
+        };
+        return noted(text, line, m, both, rooms::moved(out, behind), queue, openers, labels);
+    }
+    containers::container(text, line, m, h, bracket(), out, queue, openers, labels)
+}
+
+// A bare opening brace: the sheet is refused there.
+fn refuse(m: Margin, h: Span, p: Parser) -> Parser
+    requires { ⌜ m .base + h .from < 2 ^ 32 ⌝ }
+    ensures { λ r. ⌜ r ≡ refusing (m .base + h .from) p ⌝ }
+{
+    let cursor = p.cursor;
+    let inside = p.inside;
+    let last = p.last;
+    let links = p.links;
+    let at = atoms::place_at(m, h.from);
+    rooms::Parser {
+        cursor: cursor,
+        events: p.events,
+        openers: p.openers,
+        inside: inside,
+        last: last,
+        labels: p.labels,
+        fits: p.fits,
+        links: links,
+        refused: Refused::At(at),
+    }
+}
