@@ -47,7 +47,16 @@ fn bracket() -> Marks
 }
 
 // `<`: an autolink if the scan accepts.
-fn angle(text: &[u8], line: &[u8], m: Margin, h: Span, p: Parser, queue: &mut [u32], openers: &mut [u32], labels: &mut [u8]) -> Parser
+fn angle(
+    text: &[u8],
+    line: &[u8],
+    m: Margin,
+    h: Span,
+    p: Parser,
+    queue: &mut [u32],
+    openers: &mut [u32],
+    labels: &mut [u8],
+) -> Parser
     requires { ⌜ Ready (now line) m h p (now queue) (now openers) ⌝ }
     requires { ⌜ Shelving p (now labels) ⌝ }
     ensures { λ r. ⌜ ((rules : Rules) → Stepped p (now (queue .entry)) (now (openers .entry)) (now (labels .entry)) r (now (queue .exit)) (now (openers .exit)) (now (labels .exit)) (said.angle (sheetOf rules (now (text .entry)) (now (labels .entry))) (viewed m (now (line .entry))) (here h p) (autolinkOf (drop (h .to) (now (line .entry)))))) ⌝ }
@@ -59,7 +68,16 @@ fn angle(text: &[u8], line: &[u8], m: Margin, h: Span, p: Parser, queue: &mut [u
 }
 
 // `:`: a symbol if the scan accepts.
-fn colon(text: &[u8], line: &[u8], m: Margin, h: Span, p: Parser, queue: &mut [u32], openers: &mut [u32], labels: &mut [u8]) -> Parser
+fn colon(
+    text: &[u8],
+    line: &[u8],
+    m: Margin,
+    h: Span,
+    p: Parser,
+    queue: &mut [u32],
+    openers: &mut [u32],
+    labels: &mut [u8],
+) -> Parser
     requires { ⌜ Ready (now line) m h p (now queue) (now openers) ⌝ }
     requires { ⌜ Shelving p (now labels) ⌝ }
     ensures { λ r. ⌜ ((rules : Rules) → Stepped p (now (queue .entry)) (now (openers .entry)) (now (labels .entry)) r (now (queue .exit)) (now (openers .exit)) (now (labels .exit)) (said.colon (sheetOf rules (now (text .entry)) (now (labels .entry))) (viewed m (now (line .entry))) (here h p) (symbolOf (drop (h .to) (now (line .entry)))))) ⌝ }
@@ -71,7 +89,16 @@ fn colon(text: &[u8], line: &[u8], m: Margin, h: Span, p: Parser, queue: &mut [u
 }
 
 // `[^`: a footnote reference if the scan accepts; otherwise one opener of two bytes.
-fn noted(text: &[u8], line: &[u8], m: Margin, h: Span, p: Parser, queue: &mut [u32], openers: &mut [u32], labels: &mut [u8]) -> Parser
+fn noted(
+    text: &[u8],
+    line: &[u8],
+    m: Margin,
+    h: Span,
+    p: Parser,
+    queue: &mut [u32],
+    openers: &mut [u32],
+    labels: &mut [u8],
+) -> Parser
     requires { ⌜ Ready (now line) m h p (now queue) (now openers) ⌝ }
     requires { ⌜ Shelving p (now labels) ⌝ }
     ensures { λ r. ⌜ ((rules : Rules) → Stepped p (now (queue .entry)) (now (openers .entry)) (now (labels .entry)) r (now (queue .exit)) (now (openers .exit)) (now (labels .exit)) (said.noted (sheetOf rules (now (text .entry)) (now (labels .entry))) (viewed m (now (line .entry))) (here h p) (footnoteOf (drop (h .to) (now (line .entry)))))) ⌝ }
@@ -83,7 +110,16 @@ fn noted(text: &[u8], line: &[u8], m: Margin, h: Span, p: Parser, queue: &mut [u
 }
 
 // `[`: the next token is peeked at; with `^` behind it, and not `^}`, the two are one token.
-fn bracketed(text: &[u8], line: &[u8], m: Margin, h: Span, p: Parser, queue: &mut [u32], openers: &mut [u32], labels: &mut [u8]) -> Parser
+fn bracketed(
+    text: &[u8],
+    line: &[u8],
+    m: Margin,
+    h: Span,
+    p: Parser,
+    queue: &mut [u32],
+    openers: &mut [u32],
+    labels: &mut [u8],
+) -> Parser
     requires { ⌜ Ready (now line) m h p (now queue) (now openers) ⌝ }
     requires { ⌜ Shelving p (now labels) ⌝ }
     ensures { λ r. ⌜ ((rules : Rules) → Stepped p (now (queue .entry)) (now (openers .entry)) (now (labels .entry)) r (now (queue .exit)) (now (openers .exit)) (now (labels .exit)) (bracketing (sheetOf rules (now (text .entry)) (now (labels .entry))) (viewed m (now (line .entry))) (here h p))) ⌝ }
@@ -104,7 +140,16 @@ fn bracketed(text: &[u8], line: &[u8], m: Margin, h: Span, p: Parser, queue: &mu
             from: h.from,
             to: h.to + t.len,
         };
-        return noted(text, line, m, both, rooms::moved(out, behind), queue, openers, labels);
+        return noted(
+            text,
+            line,
+            m,
+            both,
+            rooms::moved(out, behind),
+            queue,
+            openers,
+            labels,
+        );
     }
     containers::container(text, line, m, h, bracket(), out, queue, openers, labels)
 }
@@ -129,5 +174,78 @@ fn refuse(m: Margin, h: Span, p: Parser) -> Parser
         fits: p.fits,
         links: links,
         refused: Refused::At(at),
+    }
+}
+
+// A run of more than 255 backticks opens nothing.
+fn backticks(
+    text: &[u8],
+    line: &[u8],
+    m: Margin,
+    h: Span,
+    p: Parser,
+    queue: &mut [u32],
+    openers: &mut [u32],
+    labels: &mut [u8],
+) -> Parser
+    requires { ⌜ Ready (now line) m h p (now queue) (now openers) ⌝ }
+    requires { ⌜ Shelving p (now labels) ⌝ }
+    requires { ⌜ Ended p (now queue) ⌝ }
+    ensures { λ r. ⌜ ((rules : Rules) → Stepped p (now (queue .entry)) (now (openers .entry)) (now (labels .entry)) r (now (queue .exit)) (now (openers .exit)) (now (labels .exit)) (said.outside (sheetOf rules (now (text .entry)) (now (labels .entry))) (viewed m (now (line .entry))) (here h p) Role.Backticks)) ⌝ }
+{
+    if h.to - h.from <= 255 {
+        return verbatim::opens_verbatim(m, h, p, queue);
+    }
+    containers::container(text, line, m, h, plain(1), p, queue, openers, labels)
+}
+
+// Two hyphens and more are dashes.
+fn hyphens(
+    text: &[u8],
+    line: &[u8],
+    m: Margin,
+    h: Span,
+    p: Parser,
+    queue: &mut [u32],
+    openers: &mut [u32],
+    labels: &mut [u8],
+) -> Parser
+    requires { ⌜ Ready (now line) m h p (now queue) (now openers) ⌝ }
+    requires { ⌜ Shelving p (now labels) ⌝ }
+    ensures { λ r. ⌜ ((rules : Rules) → Stepped p (now (queue .entry)) (now (openers .entry)) (now (labels .entry)) r (now (queue .exit)) (now (openers .exit)) (now (labels .exit)) (said.outside (sheetOf rules (now (text .entry)) (now (labels .entry))) (viewed m (now (line .entry))) (here h p) Role.Hyphens)) ⌝ }
+{
+    if h.to - h.from < 2 {
+        return containers::container(text, line, m, h, plain(1), p, queue, openers, labels);
+    }
+    atoms::dashes(m, h, p, queue)
+}
+
+// A token outside verbatim.
+pub fn outside(
+    text: &[u8],
+    line: &[u8],
+    m: Margin,
+    h: Span,
+    role: Role,
+    p: Parser,
+    queue: &mut [u32],
+    openers: &mut [u32],
+    labels: &mut [u8],
+) -> Parser
+    requires { ⌜ Ready (now line) m h p (now queue) (now openers) ⌝ }
+    requires { ⌜ Shelving p (now labels) ⌝ }
+    requires { ⌜ Ended p (now queue) ⌝ }
+    ensures { λ r. ⌜ ((rules : Rules) → Stepped p (now (queue .entry)) (now (openers .entry)) (now (labels .entry)) r (now (queue .exit)) (now (openers .exit)) (now (labels .exit)) (said.outside (sheetOf rules (now (text .entry)) (now (labels .entry))) (viewed m (now (line .entry))) (here h p) role)) ⌝ }
+{
+    match role {
+        Role::Backticks => backticks(text, line, m, h, p, queue, openers, labels),
+        Role::Brace => refuse(m, h, p),
+        Role::Lt => angle(text, line, m, h, p, queue, openers, labels),
+        Role::Colon => colon(text, line, m, h, p, queue, openers, labels),
+        Role::Bracket => bracketed(text, line, m, h, p, queue, openers, labels),
+        Role::Paren => containers::container(text, line, m, h, plain(1), p, queue, openers, labels),
+        Role::Periods => atoms::dots(line, m, h, p, queue),
+        Role::Hyphens => hyphens(text, line, m, h, p, queue, openers, labels),
+        Role::Other(k) => containers::container(text, line, m, h, k, p, queue, openers, labels),
     }
 }

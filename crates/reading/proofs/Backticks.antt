@@ -153,7 +153,7 @@ unfolding kept
 kept-few w q = choose (λ (l : List Event). length l ≤ length q) (w .run) _ _ (λ e. take-few (w .keep) q) (λ e. omega arith)
 
 -- an accepted raw format ends before the line does
-format-within : (v : View) (j n : ℕ) (t : Next) → format-ahead v j t ≡ ahead.Some n → j + 2 + n + 1 ≤ length (v .bytes)
+pub format-within : (v : View) (j n : ℕ) (t : Next) → format-ahead v j t ≡ ahead.Some n → j + 2 + n + 1 ≤ length (v .bytes)
 unfolding format-ahead
 format-within v j n next.None e = absurd (apart n e)
   where

@@ -31,7 +31,7 @@ unfoldable pub Rising : List ℕ → ℕ → List Line → Type 0
 Rising text a [] = Unit {0}
 Rising text a (l ∷ ls) = (a ≤ l .start) × (l .start ≤ l .end) × (l .end ≤ length text) × Rising text (l .end) ls
 
-view-long : (text : List ℕ) (l : Line) → l .start ≤ l .end → l .end ≤ length text → length (viewOf text l .bytes) ≡ l .end - l .start
+pub view-long : (text : List ℕ) (l : Line) → l .start ≤ l .end → l .end ≤ length text → length (viewOf text l .bytes) ≡ l .end - l .start
 view-long text l a b = length-take-le (l .end - l .start) (drop (l .start) text) (omega (arith, length-drop (l .start) text))
 
 pub view-shows : (text : List ℕ) (l : Line) → l .start ≤ l .end → l .end ≤ length text → Shows text (viewOf text l)
@@ -62,6 +62,10 @@ module _ (Loose : ℕ → Type 0) (text : List ℕ) (x : Sheet) where
       next-held h =
           ⊎-elim (held-less Loose text x v m 1 0 (step x v a) (omega arith)) (held-less Loose text x v m (length (v .bytes)) 0 (step x v a) (omega arith))
           (step-held Loose text x v m shows a (h .sound) 0 h un now-told)
+
+    -- a step where no byte needs a span
+    pub step-on : ((i : ℕ) → Loose i) → (a : Turn) → a .state .refused ≡ refused.No → Held Loose text v m 0 a → Held Loose text v m 0 (step x v a)
+    step-on f a un h = next-held 0 a un (λ i o. f i) h
 
     -- any number of steps
     pub steps-some : (n : ℕ) (a : Turn) → Held Loose text v m 0 a → Told (steps-drop n x v a) → Held Loose text v m 0 (steps n x v a)

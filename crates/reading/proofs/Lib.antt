@@ -15,6 +15,7 @@ pub mod Scanning
 pub mod Backticks
 pub mod Stepping
 pub mod Links
+pub mod Braces
 pub mod Drains
 pub mod Feeding
 pub mod Theorems

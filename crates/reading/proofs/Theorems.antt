@@ -37,7 +37,7 @@ lower : (a b : ℕ) → ltb (suc a) (suc b) ≡ false → ltb a b ≡ false
 lower a b e = le-ltb a b (omega (arith, ltb-false (suc a) (suc b) e))
 
 -- questions 3 and 4: each line lies within the text, and behind the one before
-rising : (text : List ℕ) (a : ℕ) (ls : List Line) → ltb (first-outside text ls) (length ls) ≡ false → ltb (first-early a ls) (length ls) ≡ false
+pub rising : (text : List ℕ) (a : ℕ) (ls : List Line) → ltb (first-outside text ls) (length ls) ≡ false → ltb (first-early a ls) (length ls) ≡ false
     → Rising text a ls
 unfolding Rising first-outside first-early
 rising text a [] e f = tt
@@ -76,6 +76,29 @@ of-before text a (l ∷ ls) i r (inl y) = omega (arith, y .1, end-up text (l .en
     end-up text a (l ∷ ls) r = omega (arith, r .0, r .1, end-up text (l .end) ls (r .3))
 of-before text a (l ∷ ls) i r (inr y) = of-before text (l .end) ls i (r .3) y
 
+-- the first i of rising lines, and the others
+pub front : (text : List ℕ) (i : ℕ) (ls : List Line) (a : ℕ) → Rising text a ls → Rising text a (take i ls)
+unfolding Rising
+front text zero ls a r = tt
+front text (suc i) [] a r = tt
+front text (suc i) (l ∷ ls) a r = (r .0, r .1, r .2, front text i ls (l .end) (r .3))
+
+pub back : (text : List ℕ) (i : ℕ) (ls : List Line) (a : ℕ) → Rising text a ls → Rising text (end-of (take i ls) a) (drop i ls)
+unfolding Rising end-of
+back text zero ls a r = r
+back text (suc i) [] a r = tt
+back text (suc i) (l ∷ ls) a r = back text i ls (l .end) (r .3)
+
+pub halves : (i : ℕ) (ls : List Line) → total (take i ls) + total (drop i ls) ≡ total ls
+unfolding total
+halves zero ls = omega arith
+halves (suc i) [] = refl
+halves (suc i) (l ∷ ls) = omega (arith, halves i ls)
+
+-- for the rooms alone, no byte needs a span
+abbrev pub Any : ℕ → Type 0
+Any i = Unit {0}
+
 module _ (x : Sheet) where
   -- between two lines no byte is fed
   apart : (Loose : ℕ → Type 0) (all : List Line) → ((i : ℕ) → (Of all i → ⊥) → Loose i) → (a : ℕ) (ls : List Line) → Rising (x .text) a ls
@@ -96,13 +119,17 @@ module _ (x : Sheet) where
       rest i lo (inl y) = absurd (omega (arith, lo, y .1))
       rest i lo (inr y) = y
 
+  pub free : (a : ℕ) (ls : List Line) → Rising (x .text) a ls → Apart Any (x .text) x a ls
+  unfolding Of
+  free a ls r = apart Any [] (λ i n. tt) a ls r (λ i l o. absurd o)
+
   ended-refused : (b : ℕ) (w : Inside) (s : State) → ended-at b w s .refused ≡ s .refused
   unfolding ended-at
   ended-refused b inside.No s = refl
   ended-refused b (inside.Verbatim w) s = refl
 
   module _ (ls : List Line) (fed : Fed (x .text) ls) where
-    up : Rising (x .text) 0 ls
+    pub up : Rising (x .text) 0 ls
     up = rising (x .text) 0 ls (fed .inside) (fed .apart)
 
     -- a byte needs no span if it is of no fed line, or of a dropped blank
@@ -158,41 +185,14 @@ module _ (x : Sheet) where
       pub whole : Whole x ls
       whole = record { walked = walked; ordered = ordered; covered = covered; blanks = blanks; room = room }
 
-    -- the parser's own rooms, at any moment, whether or not a brace is met
-    front : (i : ℕ) (ms : List Line) (a : ℕ) → Rising (x .text) a ms → Rising (x .text) a (take i ms)
-    unfolding Rising
-    front zero ms a r = tt
-    front (suc i) [] a r = tt
-    front (suc i) (l ∷ ms) a r = (r .0, r .1, r .2, front i ms (l .end) (r .3))
-
-    back : (i : ℕ) (ms : List Line) (a : ℕ) → Rising (x .text) a ms → Rising (x .text) (end-of (take i ms) a) (drop i ms)
-    unfolding Rising end-of
-    back zero ms a r = r
-    back (suc i) [] a r = tt
-    back (suc i) (l ∷ ms) a r = back i ms (l .end) (r .3)
-
-    halves : (i : ℕ) (ms : List Line) → total (take i ms) + total (drop i ms) ≡ total ms
-    unfolding total
-    halves zero ms = omega arith
-    halves (suc i) [] = refl
-    halves (suc i) (l ∷ ms) = omega (arith, halves i ms)
-
-    -- here no byte needs a span
-    abbrev Any : ℕ → Type 0
-    Any i = Unit {0}
-
-    free : (a : ℕ) (ms : List Line) → Rising (x .text) a ms → Apart Any (x .text) x a ms
-    unfolding Of
-    free a ms r = apart Any [] (λ i n. tt) a ms r (λ i l o. absurd o)
-
-    -- behind i lines
-    behind : (i : ℕ) → Stood Any (x .text) x (end-of (take i ls) 0) (0 + total (take i ls)) (lines x (views (x .text) (take i ls)) start)
+    -- the parser's own rooms, at any moment, whether or not a brace is met: behind i lines
+    pub behind : (i : ℕ) → Stood Any (x .text) x (end-of (take i ls) 0) (0 + total (take i ls)) (lines x (views (x .text) (take i ls)) start)
     behind i =
-        lines-stood Any (x .text) x (take i ls) 0 0 start (front i ls 0 up) (free 0 (take i ls) (front i ls 0 up)) (start-stood Any (x .text) x) (λ j o. tt)
+        lines-stood Any (x .text) x (take i ls) 0 0 start (front (x .text) i ls 0 up) (free 0 (take i ls) (front (x .text) i ls 0 up)) (start-stood Any (x .text) x) (λ j o. tt)
 
     within : (i j : ℕ) → (length (moment x ls i j .queue) ≤ total ls) × (length (moment x ls i j .openers) ≤ total ls)
     within i j =
-        let r = back i ls 0 up in
+        let r = back (x .text) i ls 0 up in
         let d = during-few Any (x .text) x j (drop i ls) (end-of (take i ls) 0) (0 + total (take i ls)) _ r (free _ (drop i ls) r) (behind i) (λ k. tt) in
         (omega (arith, d .0, halves i ls), omega (arith, d .1, halves i ls))
 
@@ -248,10 +248,10 @@ module _ (x : Sheet) where
   enough ls fed i l ms e k =
       let v = viewOf (x .text) l in
       let s = lines x (views (x .text) (take i ls)) start in
-      let r = subst (λ (m : List Line). Rising (x .text) (end-of (take i ls) 0) m) e (back ls fed i ls 0 (up ls fed)) in
+      let r = subst (λ (m : List Line). Rising (x .text) (end-of (take i ls) 0) m) e (back (x .text) i ls 0 (up ls fed)) in
       let shows = view-shows (x .text) l (r .1) (r .2) in
-      let b = begun-held (Any ls fed) (x .text) x v (end-of (take i ls) 0) (0 + total (take i ls)) s (free ls fed (end-of (take i ls) 0) (l ∷ ms) r .0) (behind ls fed i) in
-      let h = steps-all (Any ls fed) (x .text) x v (0 + total (take i ls)) shows (length (v .bytes)) 0 (begun x v s) (omega arith) b (λ j o. tt) in
+      let b = begun-held Any (x .text) x v (end-of (take i ls) 0) (0 + total (take i ls)) s (free (end-of (take i ls) 0) (l ∷ ms) r .0) (behind ls fed i) in
+      let h = steps-all Any (x .text) x v (0 + total (take i ls)) shows (length (v .bytes)) 0 (begun x v s) (omega arith) b (λ j o. tt) in
       steps-more (length (v .bytes)) k v (begun x v s)
       ∙ steps-still k v (steps (length (v .bytes)) x v (begun x v s))
       (λ z. step-end v (steps (length (v .bytes)) x v (begun x v s)) (h .sound) (h .good z .far))

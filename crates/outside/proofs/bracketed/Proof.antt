@@ -43,9 +43,10 @@ container-requires c κs =
     let args = c .before .before .before .before .before .before .before .before .before .before .before .before .before .before .before .args in
     let peek = c .before .before .before .before .before .before .before .before .peek in
     let moved = c .before .before .before .before .before .before .moved in
-    let pre = c .before .before .before .before .before .before .before .before .before .before .before .before .before .before .before .pre in
-    (peek-ready (sheetOf (rulesOf 0) (args .text .now) (args .labels .now)) (args .m) (args .line .now) (args .h) (args .p) (args .queue .now) (args .openers .now) (args .labels .now) (peek .result) (peek .ensures) (moved .result) (moved .ensures) (pre .0),
-    peek-shelving (sheetOf (rulesOf 0) (args .text .now) (args .labels .now)) (args .m) (args .line .now) (args .h) (args .p) (args .queue .now) (args .openers .now) (args .labels .now) (peek .result) (peek .ensures) (moved .result) (moved .ensures) (pre .1))
+    let pre = c .before .before .before .before .before .before .before .before .before .before .before .before .before .before .before .pre in (
+      peek-ready (sheetOf (rulesOf 0) (args .text .now) (args .labels .now)) (args .m) (args .line .now) (args .h) (args .p) (args .queue .now) (args .openers .now) (args .labels .now) (peek .result) (peek .ensures) (moved .result) (moved .ensures) (pre .0),
+      peek-shelving (sheetOf (rulesOf 0) (args .text .now) (args .labels .now)) (args .m) (args .line .now) (args .h) (args .p) (args .queue .now) (args .openers .now) (args .labels .now) (peek .result) (peek .ensures) (moved .result) (moved .ensures) (pre .1),
+    )
 
 same-length : tie.Need-same-length
 same-length c = search needs
@@ -97,9 +98,10 @@ noted-requires c κs =
     let next = c .before .before .before .before .before .before .before .before .before .before .before .before .next in
     let next2 = c .before .before .before .before .before .before .before .next2 in
     let moved2 = c .before .before .before .moved2 in
-    let s = pre .1 in
-    (caret-ready (sheetOf (rulesOf 0) (args .text .now) (args .labels .now)) (args .m) (args .line .now) (args .h) (args .p) (args .queue .now) (args .openers .now) (args .labels .now) (peek .result) (peek .ensures) (moved .result) (moved .ensures) _ (next .given .1) (pre .0) (next2 .result) (next2 .ensures) (moved2 .result) (moved2 .ensures),
-    subst (λ (y : Parser). Shelving y (args .labels .now)) (sym (moved2 .ensures ∙ ap (λ (y : Parser). movedTo y (next2 .result .cursor)) (moved .ensures))) (record { labels = s .labels; room = s .room; links = s .links }))
+    let s = pre .1 in (
+      caret-ready (sheetOf (rulesOf 0) (args .text .now) (args .labels .now)) (args .m) (args .line .now) (args .h) (args .p) (args .queue .now) (args .openers .now) (args .labels .now) (peek .result) (peek .ensures) (moved .result) (moved .ensures) _ (next .given .1) (pre .0) (next2 .result) (next2 .ensures) (moved2 .result) (moved2 .ensures),
+      subst (λ (y : Parser). Shelving y (args .labels .now)) (sym (moved2 .ensures ∙ ap (λ (y : Parser). movedTo y (next2 .result .cursor)) (moved .ensures))) (record { labels = s .labels; room = s .room; links = s .links }),
+    )
 
 same-length-4 : tie.Need-same-length-4
 same-length-4 c = search needs
@@ -133,9 +135,10 @@ container-requires-2 c κs =
     let args = c .before .before .before .before .before .before .before .before .before .before .before .before .before .before .before .before .before .before .before .args in
     let peek = c .before .before .before .before .before .before .before .before .before .before .before .before .peek in
     let moved = c .before .before .before .before .before .before .before .before .before .before .moved in
-    let pre = c .before .before .before .before .before .before .before .before .before .before .before .before .before .before .before .before .before .before .before .pre in
-    (peek-ready (sheetOf (rulesOf 0) (args .text .now) (args .labels .now)) (args .m) (args .line .now) (args .h) (args .p) (args .queue .now) (args .openers .now) (args .labels .now) (peek .result) (peek .ensures) (moved .result) (moved .ensures) (pre .0),
-    peek-shelving (sheetOf (rulesOf 0) (args .text .now) (args .labels .now)) (args .m) (args .line .now) (args .h) (args .p) (args .queue .now) (args .openers .now) (args .labels .now) (peek .result) (peek .ensures) (moved .result) (moved .ensures) (pre .1))
+    let pre = c .before .before .before .before .before .before .before .before .before .before .before .before .before .before .before .before .before .before .before .pre in (
+      peek-ready (sheetOf (rulesOf 0) (args .text .now) (args .labels .now)) (args .m) (args .line .now) (args .h) (args .p) (args .queue .now) (args .openers .now) (args .labels .now) (peek .result) (peek .ensures) (moved .result) (moved .ensures) (pre .0),
+      peek-shelving (sheetOf (rulesOf 0) (args .text .now) (args .labels .now)) (args .m) (args .line .now) (args .h) (args .p) (args .queue .now) (args .openers .now) (args .labels .now) (peek .result) (peek .ensures) (moved .result) (moved .ensures) (pre .1),
+    )
 
 same-length-7 : tie.Need-same-length-7
 same-length-7 c = search needs

@@ -1,0 +1,261 @@
+use Rattle.outside.proofs.Told.{as-backticks, as-hyphens, as-lt, as-colon, as-bracket, as-paren, as-other, as-periods, as-brace}
+use Rattle.links.specs.Linked.{sheetOf}
+use Rattle.rooms.specs.Standing.{viewed, here}
+use borrow.Author.Needs.{needs}
+use Rattle.outside.proofs.outside.Statement.{statement}
+use Rattle.outside.proofs.outside.Tie as tie
+use Rattle.outside.proofs.outside.Reads as reads
+use Rattle.outside.proofs.outside.Lts as lts
+use Rattle.atoms.proofs.dots.Reads as dots-reads
+use Rattle.containers.proofs.container.Reads as container-reads
+use Rattle.outside.proofs.angle.Reads as angle-reads
+use Rattle.outside.proofs.backticks.Reads as backticks-reads
+use Rattle.outside.proofs.bracketed.Reads as bracketed-reads
+use Rattle.outside.proofs.colon.Reads as colon-reads
+use Rattle.outside.proofs.hyphens.Reads as hyphens-reads
+use Rattle.outside.proofs.plain.Reads as plain-reads
+use Rattle.outside.proofs.refuse.Reads as refuse-reads
+
+enum-told : tie.Need-enum-told
+enum-told c = search needs
+
+backticks-requires : tie.Need-backticks-requires
+backticks-requires c κs = search needs
+
+enum-told-2 : tie.Need-enum-told-2
+enum-told-2 c = search needs
+
+refuse-requires : tie.Need-refuse-requires
+refuse-requires c κs = search needs
+
+enum-told-3 : tie.Need-enum-told-3
+enum-told-3 c = search needs
+
+angle-requires : tie.Need-angle-requires
+angle-requires c κs = search needs
+
+enum-told-4 : tie.Need-enum-told-4
+enum-told-4 c = search needs
+
+colon-requires : tie.Need-colon-requires
+colon-requires c κs = search needs
+
+enum-told-5 : tie.Need-enum-told-5
+enum-told-5 c = search needs
+
+bracketed-requires : tie.Need-bracketed-requires
+bracketed-requires c κs = search needs
+
+enum-told-6 : tie.Need-enum-told-6
+enum-told-6 c = search needs
+
+plain-requires : tie.Need-plain-requires
+plain-requires c κs = search needs
+
+container-requires : tie.Need-container-requires
+container-requires c κs = search needs
+
+enum-told-7 : tie.Need-enum-told-7
+enum-told-7 c = search needs
+
+dots-requires : tie.Need-dots-requires
+dots-requires c κs = search needs
+
+enum-told-8 : tie.Need-enum-told-8
+enum-told-8 c = search needs
+
+hyphens-requires : tie.Need-hyphens-requires
+hyphens-requires c κs = search needs
+
+enum-known-role : tie.Need-enum-known-role
+enum-known-role c = search needs
+
+container-requires-2 : tie.Need-container-requires-2
+container-requires-2 c κs = search needs
+
+same-length : tie.Need-same-length
+same-length c = search needs
+
+same-length-2 : tie.Need-same-length-2
+same-length-2 c = search needs
+
+same-length-3 : tie.Need-same-length-3
+same-length-3 c = search needs
+
+returns : tie.Need-returns
+returns c rules =
+    let args = c .before .before .before .before .before .before .before .before .before .before .before .before .before .before .before .before .before .args in
+    let backticks = c .before .before .before .before .before .before .backticks in
+    let enum-told = c .before .before .before .before .before .before .before .before .before .before .enum-told in
+    as-backticks (sheetOf rules (args .text .now) (args .labels .now)) (viewed (args .m) (args .line .now)) (here (args .h) (args .p)) (args .p) (args .queue .now) (args .openers .now) (args .labels .now) (backticks .result) (backticks .last .1 .1 .1 .1 .1 .0) (backticks .last .1 .1 .1 .1 .1 .1 .0) (backticks .last .1 .1 .1 .1 .1 .1 .1 .0) (args .role) (enum-told .given .1) (backticks .ensures rules)
+
+returns-2 : tie.Need-returns-2
+returns-2 c rules =
+    let args = c .before .before .before .before .before .before .before .before .args in
+    let refuse = c .refuse in
+    let pre = c .before .before .before .before .before .before .before .before .pre in
+    let enum-told2 = c .before .enum-told2 in
+    as-brace (sheetOf rules (args .text .now) (args .labels .now)) (args .m) (args .line .now) (args .h) (args .p) (args .queue .now) (args .openers .now) (args .labels .now) (refuse .result) (pre .1 .0 .labels) (refuse .ensures) (args .role) (enum-told2 .given .1)
+
+same-length-4 : tie.Need-same-length-4
+same-length-4 c = search needs
+
+same-length-5 : tie.Need-same-length-5
+same-length-5 c = search needs
+
+same-length-6 : tie.Need-same-length-6
+same-length-6 c = search needs
+
+returns-3 : tie.Need-returns-3
+returns-3 c rules =
+    let args = c .before .before .before .before .before .before .before .before .before .before .before .before .before .before .before .before .before .args in
+    let angle = c .before .before .before .before .before .before .angle in
+    let enum-told3 = c .before .before .before .before .before .before .before .before .before .before .enum-told3 in
+    as-lt (sheetOf rules (args .text .now) (args .labels .now)) (viewed (args .m) (args .line .now)) (here (args .h) (args .p)) (args .p) (args .queue .now) (args .openers .now) (args .labels .now) (angle .result) (angle .last .1 .1 .1 .1 .1 .0) (angle .last .1 .1 .1 .1 .1 .1 .0) (angle .last .1 .1 .1 .1 .1 .1 .1 .0) (args .role) (enum-told3 .given .1) (angle .ensures rules)
+
+same-length-7 : tie.Need-same-length-7
+same-length-7 c = search needs
+
+same-length-8 : tie.Need-same-length-8
+same-length-8 c = search needs
+
+same-length-9 : tie.Need-same-length-9
+same-length-9 c = search needs
+
+returns-4 : tie.Need-returns-4
+returns-4 c rules =
+    let args = c .before .before .before .before .before .before .before .before .before .before .before .before .before .before .before .before .before .args in
+    let colon = c .before .before .before .before .before .before .colon in
+    let enum-told4 = c .before .before .before .before .before .before .before .before .before .before .enum-told4 in
+    as-colon (sheetOf rules (args .text .now) (args .labels .now)) (viewed (args .m) (args .line .now)) (here (args .h) (args .p)) (args .p) (args .queue .now) (args .openers .now) (args .labels .now) (colon .result) (colon .last .1 .1 .1 .1 .1 .0) (colon .last .1 .1 .1 .1 .1 .1 .0) (colon .last .1 .1 .1 .1 .1 .1 .1 .0) (args .role) (enum-told4 .given .1) (colon .ensures rules)
+
+same-length-10 : tie.Need-same-length-10
+same-length-10 c = search needs
+
+same-length-11 : tie.Need-same-length-11
+same-length-11 c = search needs
+
+same-length-12 : tie.Need-same-length-12
+same-length-12 c = search needs
+
+returns-5 : tie.Need-returns-5
+returns-5 c rules =
+    let args = c .before .before .before .before .before .before .before .before .before .before .before .before .before .before .before .before .before .args in
+    let bracketed = c .before .before .before .before .before .before .bracketed in
+    let enum-told5 = c .before .before .before .before .before .before .before .before .before .before .enum-told5 in
+    as-bracket (sheetOf rules (args .text .now) (args .labels .now)) (viewed (args .m) (args .line .now)) (here (args .h) (args .p)) (args .p) (args .queue .now) (args .openers .now) (args .labels .now) (bracketed .result) (bracketed .last .1 .1 .1 .1 .1 .0) (bracketed .last .1 .1 .1 .1 .1 .1 .0) (bracketed .last .1 .1 .1 .1 .1 .1 .1 .0) (args .role) (enum-told5 .given .1) (bracketed .ensures rules)
+
+same-length-13 : tie.Need-same-length-13
+same-length-13 c = search needs
+
+same-length-14 : tie.Need-same-length-14
+same-length-14 c = search needs
+
+same-length-15 : tie.Need-same-length-15
+same-length-15 c = search needs
+
+returns-6 : tie.Need-returns-6
+returns-6 c rules =
+    let args = c .before .before .before .before .before .before .before .before .before .before .before .before .before .before .before .before .before .before .args in
+    let container = c .before .before .before .before .before .before .container in
+    let enum-told6 = c .before .before .before .before .before .before .before .before .before .before .before .enum-told6 in
+    let plain = c .before .before .before .before .before .before .before .before .before .before .plain in
+    as-paren (sheetOf rules (args .text .now) (args .labels .now)) (viewed (args .m) (args .line .now)) (here (args .h) (args .p)) (args .p) (args .queue .now) (args .openers .now) (args .labels .now) (container .result) (container .last .1 .1 .1 .1 .1 .1 .0) (container .last .1 .1 .1 .1 .1 .1 .1 .0) (container .last .1 .1 .1 .1 .1 .1 .1 .1 .0) (args .role) (enum-told6 .given .1) (plain .result) (plain .ensures) (container .ensures rules)
+
+same-length-16 : tie.Need-same-length-16
+same-length-16 c = search needs
+
+returns-7 : tie.Need-returns-7
+returns-7 c rules =
+    let args = c .before .before .before .before .before .before .before .before .before .before .before .args in
+    let dots = c .before .before .dots in
+    let pre = c .before .before .before .before .before .before .before .before .before .before .before .pre in
+    let enum-told7 = c .before .before .before .before .enum-told7 in
+    as-periods (sheetOf rules (args .text .now) (args .labels .now)) (args .m) (args .line .now) (args .h) (args .p) (args .queue .now) (args .openers .now) (args .labels .now) (dots .result) (dots .last .1 .1 .1 .1 .0) (pre .1 .0 .labels) (args .role) (enum-told7 .given .1) (dots .ensures (args .openers .now))
+
+same-length-17 : tie.Need-same-length-17
+same-length-17 c = search needs
+
+same-length-18 : tie.Need-same-length-18
+same-length-18 c = search needs
+
+same-length-19 : tie.Need-same-length-19
+same-length-19 c = search needs
+
+returns-8 : tie.Need-returns-8
+returns-8 c rules =
+    let args = c .before .before .before .before .before .before .before .before .before .before .before .before .before .before .before .before .before .args in
+    let hyphens = c .before .before .before .before .before .before .hyphens in
+    let enum-told8 = c .before .before .before .before .before .before .before .before .before .before .enum-told8 in
+    as-hyphens (sheetOf rules (args .text .now) (args .labels .now)) (viewed (args .m) (args .line .now)) (here (args .h) (args .p)) (args .p) (args .queue .now) (args .openers .now) (args .labels .now) (hyphens .result) (hyphens .last .1 .1 .1 .1 .1 .0) (hyphens .last .1 .1 .1 .1 .1 .1 .0) (hyphens .last .1 .1 .1 .1 .1 .1 .1 .0) (args .role) (enum-told8 .given .1) (hyphens .ensures rules)
+
+same-length-20 : tie.Need-same-length-20
+same-length-20 c = search needs
+
+same-length-21 : tie.Need-same-length-21
+same-length-21 c = search needs
+
+same-length-22 : tie.Need-same-length-22
+same-length-22 c = search needs
+
+returns-9 : tie.Need-returns-9
+returns-9 c rules =
+    let args = c .before .before .before .before .before .before .before .before .before .before .before .before .before .before .before .before .before .before .args in
+    let container2 = c .before .before .before .before .before .before .container2 in
+    let role = c .before .before .before .before .before .before .before .before .before .before .before .role in
+    as-other (sheetOf rules (args .text .now) (args .labels .now)) (viewed (args .m) (args .line .now)) (here (args .h) (args .p)) (args .p) (args .queue .now) (args .openers .now) (args .labels .now) (container2 .result) (container2 .last .1 .1 .1 .1 .1 .1 .0) (container2 .last .1 .1 .1 .1 .1 .1 .1 .0) (container2 .last .1 .1 .1 .1 .1 .1 .1 .1 .0) (args .role) _ (role .given .1) (container2 .ensures rules)
+
+pub outside-spec : {M : Type 1} → statement M
+outside-spec =
+    tie.close
+    (tie.spec
+    enum-told
+    backticks-requires
+    enum-told-2
+    refuse-requires
+    enum-told-3
+    angle-requires
+    enum-told-4
+    colon-requires
+    enum-told-5
+    bracketed-requires
+    enum-told-6
+    plain-requires
+    container-requires
+    enum-told-7
+    dots-requires
+    enum-told-8
+    hyphens-requires
+    enum-known-role
+    container-requires-2
+    same-length
+    same-length-2
+    same-length-3
+    returns
+    returns-2
+    same-length-4
+    same-length-5
+    same-length-6
+    returns-3
+    same-length-7
+    same-length-8
+    same-length-9
+    returns-4
+    same-length-10
+    same-length-11
+    same-length-12
+    returns-5
+    same-length-13
+    same-length-14
+    same-length-15
+    returns-6
+    same-length-16
+    returns-7
+    same-length-17
+    same-length-18
+    same-length-19
+    returns-8
+    same-length-20
+    same-length-21
+    same-length-22
+    returns-9)

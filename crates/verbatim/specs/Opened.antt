@@ -1,0 +1,47 @@
+-- What a verbatim's functions ask of the rooms, and what they are told by beside the definition.
+use Prim.Native.Nat.{ℕ, _-_, _≤_, _<_}
+use mathlib.Core.Path.{_≡_}
+use mathlib.Core.List.{List}
+use mathlib.Core.Bool.{true, false}
+use lib.Dec.{ltb}
+use lib.ListN.{take}
+use Rattle.reading.specs.declared.Verbatim.{Verbatim}
+use Rattle.reading.specs.declared.Inside.{Inside}
+use Rattle.reading.specs.declared.Inside.the-variants as inside
+use Rattle.reading.specs.Machine.{View, State}
+use Rattle.reading.specs.Reading.{begun, sheet}
+use Rattle.reading.specs.Verbatim.{exits}
+use Rattle.rooms.specs.declared.Parser.{Parser}
+use Rattle.rooms.specs.Records.{eventAt}
+use Rattle.rooms.specs.Standing.{stands, turn}
+use Rattle.verbatim.specs.declared.EventKind.{EventKind}
+use Rattle.verbatim.specs.declared.EventKind.the-variants.{Atom, Enter, Exit}
+
+-- an open verbatim: its enter stands in the queue, before what a closing run keeps
+pub record Opened (w : Verbatim) (p : Parser) (q : List ℕ) : Type 0 where
+  pub low : w .event < w .keep
+  pub high : w .keep ≤ p .events
+  pub enters : 32 ≤ eventAt q (w .event) .kind
+  pub below : eventAt q (w .event) .kind < 64
+
+unfoldable pub OpenedBy : Inside → Parser → List ℕ → Type 0
+OpenedBy inside.No p q = Unit {0}
+OpenedBy (inside.Verbatim w) p q = Opened w p q
+
+-- dollars that the newest of n events has
+pub record Dollars (d n : ℕ) (q : List ℕ) : Type 0 where
+  pub some : 0 < d → 0 < n
+  pub within : 0 < d → d ≤ eventAt q (n - 1) .end .0
+
+-- a kind taken apart
+unfoldable pub kindOf : ℕ → EventKind
+kindOf k = elim (ltb k 32) [ true ↦ Atom k | false ↦ elim (ltb k 64) [ true ↦ Enter (k - 32) | false ↦ Exit (k - 64) ] ]
+
+-- an exit behind the first n events
+abbrev pub headed : Verbatim → ℕ → ℕ → ℕ → State → State
+headed w n a b s = exits w (take n (s .queue)) a b s
+
+-- a new line, of any sheet in a reading
+pub record Begun (reading : ℕ) (p r : Parser) : Type 0 where
+  pub same : (text q o l : List ℕ) (room : ℕ) (v : View) → turn r q o l ≡ begun (sheet text reading room) v (stands p q o l)
+  pub labels : r .labels ≡ p .labels
