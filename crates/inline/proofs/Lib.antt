@@ -1,0 +1,3 @@
+pub mod Taking
+pub mod Turning
+pub mod Sheets

@@ -1,0 +1,24 @@
+use Rattle.inline.proofs.Taking.{fresh-stands}
+use mathlib.Core.Path.{refl}
+use borrow.Author.Needs.{needs}
+use Rattle.inline.proofs.fresh.Statement.{statement}
+use Rattle.inline.proofs.fresh.Tie as tie
+use Rattle.inline.proofs.fresh.Reads as reads
+use Rattle.inline.proofs.fresh.Lts as lts
+use Rattle.atoms.proofs.no_str.Reads as no-str-reads
+use Rattle.lex.proofs.lex.Cursor.new.Reads as new-reads
+
+new-requires : tie.Need-new-requires
+new-requires c κs = search needs
+
+no-str-requires : tie.Need-no-str-requires
+no-str-requires c κs = search needs
+
+returns : tie.Need-returns
+returns c =
+    let new = c .before .new in
+    let no-str = c .no-str in
+    (λ q o l. fresh-stands (new .result) (no-str .result) (no-str .ensures) q o l, refl)
+
+pub fresh-spec : {M : Type 1} → statement M
+fresh-spec = tie.close (tie.spec new-requires no-str-requires returns)

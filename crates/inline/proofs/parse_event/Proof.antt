@@ -1,0 +1,132 @@
+use Rattle.inline.proofs.Taking.{event-none, event-within, event-ready, event-shelving, event-ended, event-fits, event-opened, event-room, event-outside, event-verbatim}
+use Rattle.reading.specs.Machine.{rulesOf}
+use native.Mathlib.Omega.{arith}
+use borrow.Author.Needs.{needs}
+use Rattle.inline.proofs.parse_event.Statement.{statement}
+use Rattle.inline.proofs.parse_event.Tie as tie
+use Rattle.inline.proofs.parse_event.Reads as reads
+use Rattle.inline.proofs.parse_event.Lts as lts
+use Rattle.lex.proofs.lex.Cursor.next.Reads as next-reads
+use Rattle.outside.proofs.outside.Reads as outside-reads
+use Rattle.rooms.proofs.moved.Reads as moved-reads
+use Rattle.tables.proofs.role_of.Reads as role-of-reads
+use Rattle.verbatim.proofs.in_verbatim.Reads as in-verbatim-reads
+
+next-requires : tie.Need-next-requires
+next-requires c κs = search needs
+
+enum-known-next : tie.Need-enum-known-next
+enum-known-next c = search needs
+
+enum-told : tie.Need-enum-told
+enum-told c = search needs
+
+returns : tie.Need-returns
+returns c =
+    let args = c .before .before .before .before .before .before .before .before .before .before .args in
+    let pre = c .before .before .before .before .before .before .before .before .before .before .pre in
+    let next = c .before .before .before .next in
+    let enum-told = c .enum-told in
+    event-none (args .text .now) (args .reading) (args .line .now) (args .m) (args .p) (args .queue .now) (args .openers .now) (args .labels .now) pre (next .result) (next .ensures) (enum-told .given .1)
+
+add-t19 : tie.Need-add-t19
+add-t19 c =
+    let args = c .before .before .before .before .before .before .before .before .before .before .before .before .before .args in
+    let pre = c .before .before .before .before .before .before .before .before .before .before .before .before .before .pre in
+    let next = c .before .before .before .before .before .before .next in
+    let next2 = c .before .before .before .next2 in
+    omega (arith, event-within (args .text .now) (args .reading) (args .line .now) (args .m) (args .p) (args .queue .now) (args .openers .now) (args .labels .now) pre (next .result) (next .ensures) _ (next2 .given .1), pre .small)
+
+moved-requires : tie.Need-moved-requires
+moved-requires c κs = search needs
+
+enum-told-2 : tie.Need-enum-told-2
+enum-told-2 c = search needs
+
+role-of-requires : tie.Need-role-of-requires
+role-of-requires c κs = search needs
+
+outside-requires : tie.Need-outside-requires
+outside-requires c κs =
+    let args = c .before .before .before .before .before .before .before .before .before .before .before .before .before .before .before .before .before .before .before .before .args in
+    let pre = c .before .before .before .before .before .before .before .before .before .before .before .before .before .before .before .before .before .before .before .before .pre in
+    let next = c .before .before .before .before .before .before .before .before .before .before .before .before .before .next in
+    let next2 = c .before .before .before .before .before .before .before .before .before .before .next2 in
+    let moved = c .before .before .before .before .before .before .moved in
+    let enum-told2 = c .before .before .before .before .enum-told2 in (
+      event-ready (args .text .now) (args .reading) (args .line .now) (args .m) (args .p) (args .queue .now) (args .openers .now) (args .labels .now) pre (next .result) (next .ensures) _ (next2 .given .1) (moved .result) (moved .ensures),
+      (
+        event-shelving (args .text .now) (args .reading) (args .line .now) (args .m) (args .p) (args .queue .now) (args .openers .now) (args .labels .now) pre (next .result) (next .ensures) _ (next2 .given .1) (moved .result) (moved .ensures),
+        event-ended (args .text .now) (args .reading) (args .line .now) (args .m) (args .p) (args .queue .now) (args .openers .now) (args .labels .now) pre (next .result) (next .ensures) _ (next2 .given .1) (moved .result) (moved .ensures) (enum-told2 .given .1),
+      ),
+    )
+
+enum-known-w : tie.Need-enum-known-w
+enum-known-w c = search needs
+
+in-verbatim-requires : tie.Need-in-verbatim-requires
+in-verbatim-requires c κs =
+    let args = c .before .before .before .before .before .before .before .before .before .before .before .before .before .before .before .before .before .before .args in
+    let pre = c .before .before .before .before .before .before .before .before .before .before .before .before .before .before .before .before .before .before .pre in
+    let next = c .before .before .before .before .before .before .before .before .before .before .before .next in
+    let next2 = c .before .before .before .before .before .before .before .before .next2 in
+    let moved = c .before .before .before .before .moved in
+    let w = c .before .before .w in
+    (event-fits (args .text .now) (args .reading) (args .line .now) (args .m) (args .p) (args .queue .now) (args .openers .now) (args .labels .now) pre (next .result) (next .ensures) _ (next2 .given .1) (moved .result) (moved .ensures), (event-opened (args .text .now) (args .reading) (args .line .now) (args .m) (args .p) (args .queue .now) (args .openers .now) (args .labels .now) pre (next .result) (next .ensures) _ (next2 .given .1) (moved .result) (moved .ensures) _ (w .given .1), event-room (args .text .now) (args .reading) (args .line .now) (args .m) (args .p) (args .queue .now) (args .openers .now) (args .labels .now) pre (next .result) (next .ensures) _ (next2 .given .1) (moved .result) (moved .ensures)))
+
+same-length : tie.Need-same-length
+same-length c = search needs
+
+same-length-2 : tie.Need-same-length-2
+same-length-2 c = search needs
+
+same-length-3 : tie.Need-same-length-3
+same-length-3 c = search needs
+
+returns-2 : tie.Need-returns-2
+returns-2 c =
+    let args = c .before .before .before .before .before .before .before .before .before .before .before .before .before .before .before .before .before .before .before .before .before .before .before .before .before .before .before .args in
+    let pre = c .before .before .before .before .before .before .before .before .before .before .before .before .before .before .before .before .before .before .before .before .before .before .before .before .before .before .before .pre in
+    let next = c .before .before .before .before .before .before .before .before .before .before .before .before .before .before .before .before .before .before .before .before .next in
+    let next2 = c .before .before .before .before .before .before .before .before .before .before .before .before .before .before .before .before .before .next2 in
+    let moved = c .before .before .before .before .before .before .before .before .before .before .before .before .before .moved in
+    let outside = c .before .before .before .before .before .before .outside in
+    let enum-told2 = c .before .before .before .before .before .before .before .before .before .before .before .enum-told2 in
+    let role-of = c .before .before .before .before .before .before .before .before .before .before .role-of in
+    event-outside (args .text .now) (args .reading) (args .line .now) (args .m) (args .p) (args .queue .now) (args .openers .now) (args .labels .now) pre (next .result) (next .ensures) _ (next2 .given .1) (moved .result) (moved .ensures) (outside .result) (outside .last .1 .1 .1 .1 .1 .1 .0) (outside .last .1 .1 .1 .1 .1 .1 .1 .0) (outside .last .1 .1 .1 .1 .1 .1 .1 .1 .0) (enum-told2 .given .1) (role-of .result) (role-of .ensures) (outside .ensures (rulesOf (args .reading)))
+
+same-length-4 : tie.Need-same-length-4
+same-length-4 c = search needs
+
+returns-3 : tie.Need-returns-3
+returns-3 c =
+    let args = c .before .before .before .before .before .before .before .before .before .before .before .before .before .before .before .before .before .before .before .before .before .args in
+    let pre = c .before .before .before .before .before .before .before .before .before .before .before .before .before .before .before .before .before .before .before .before .before .pre in
+    let next = c .before .before .before .before .before .before .before .before .before .before .before .before .before .before .next in
+    let next2 = c .before .before .before .before .before .before .before .before .before .before .before .next2 in
+    let moved = c .before .before .before .before .before .before .before .moved in
+    let in-verbatim = c .before .before .in-verbatim in
+    let w = c .before .before .before .before .before .w in
+    event-verbatim (args .text .now) (args .reading) (args .line .now) (args .m) (args .p) (args .queue .now) (args .openers .now) (args .labels .now) pre (next .result) (next .ensures) _ (next2 .given .1) (moved .result) (moved .ensures) (in-verbatim .result) (in-verbatim .last .1 .1 .1 .1 .1 .1 .1 .0) _ (w .given .1) (in-verbatim .ensures (args .openers .now))
+
+pub parse-event-spec : {M : Type 1} → statement M
+parse-event-spec =
+    tie.close
+    (tie.spec
+    next-requires
+    enum-known-next
+    enum-told
+    returns
+    add-t19
+    moved-requires
+    enum-told-2
+    role-of-requires
+    outside-requires
+    enum-known-w
+    in-verbatim-requires
+    same-length
+    same-length-2
+    same-length-3
+    returns-2
+    same-length-4
+    returns-3)

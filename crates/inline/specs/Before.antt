@@ -1,0 +1,92 @@
+-- What the parser asks of its rooms, at a token, at a line and at a sheet; and what it is told by.
+use Prim.Native.Nat.{ℕ, _+_, _-_, _*_, _^_, _≤_, _<_}
+use mathlib.Core.Path.{_≡_}
+use mathlib.Core.List.{List, [], _∷_}
+use mathlib.Core.Bool.{Bool, true}
+use lib.Dec.{leb}
+use lib.ListN.{length}
+use Rattle.lex.proofs.Laws.{Sound}
+use Rattle.reading.specs.declared.Line.{Line}
+use Rattle.reading.specs.declared.Inside.the-variants as inside
+use Rattle.reading.specs.declared.Refused.{Refused}
+use Rattle.reading.specs.declared.Refused.the-variants as refused
+use Rattle.reading.specs.Machine.{State}
+use Rattle.reading.specs.Verbatim.{ended-at}
+use Rattle.reading.specs.Reading.{sheet}
+use Rattle.reading.specs.Naming.{Named}
+use Rattle.reading.specs.Questions.{total, Fed}
+use Rattle.reading.proofs.Spans.{Gap}
+use Rattle.reading.proofs.Backticks.{Shows}
+use Rattle.reading.proofs.Feeding as feeding
+use Rattle.reading.proofs.Theorems.{Any}
+use Rattle.rooms.specs.declared.Parser.{Parser}
+use Rattle.rooms.specs.declared.Margin.{Margin}
+use Rattle.rooms.specs.Records.{opens}
+use Rattle.rooms.specs.Standing.{stands, viewed}
+use Rattle.verbatim.specs.Opened.{OpenedBy}
+use Rattle.outside.specs.Outside.{Ended}
+
+-- at a token: a sound cursor, and rooms for what the rest of the line can give
+pub record Before (line : List ℕ) (m : Margin) (p : Parser) (q o l : List ℕ) : Type 0 where
+  pub sound : Sound line (p .cursor)
+  pub small : m .base + length line ≤ 1048576
+  pub room : (p .events + (length line - p .cursor .pos)) * 8 ≤ length q
+  pub few : p .events + (length line - p .cursor .pos) ≤ 1048576
+  pub shallow : p .openers + (length line - p .cursor .pos) ≤ 1048576
+  pub stack : (p .openers + (length line - p .cursor .pos)) * 4 ≤ length o
+  pub named : Named (opens (p .openers) o) (p .events)
+  pub opened : OpenedBy (p .inside) p q
+  pub ended : p .inside ≡ inside.No → Ended p q
+  pub labels : p .labels ≤ length l
+  pub label-room : length l < 2 ^ 32
+  pub links : p .links .0 + 1 < 2 ^ 32
+
+-- at a line: the bytes of the lines before it, the invariant of the reading, and rooms for them and the line
+pub record Lined (text line : List ℕ) (m : Margin) (reading : ℕ) (p : Parser) (q o l : List ℕ) : Type 0 where
+  pub at : ℕ
+  pub count : ℕ
+  pub stood : feeding.Stood Any text (sheet text reading (length l)) at count (stands p q o l)
+  pub gap : Gap Any at (m .base)
+  pub shows : Shows text (viewed m line)
+  pub small : m .base + length line ≤ 1048576
+  pub few : count + length line ≤ 1048576
+  pub room : (count + length line) * 8 ≤ length q
+  pub stack : (count + length line) * 4 ≤ length o
+  pub labels : p .labels ≤ length l
+  pub label-room : length l < 2 ^ 32
+  pub links : p .links .0 ≤ count
+
+-- what a parser and its rooms stand for
+pub record Stood (r : Parser) (q o l : List ℕ) (s : State) : Type 0 where
+  pub same : stands r q o l ≡ s
+  pub labels : r .labels ≤ length l
+
+-- the line records of starts and ends
+unfoldable pub lines-of : List ℕ → List ℕ → List Line
+lines-of [] es = []
+lines-of (a ∷ more) [] = []
+lines-of (a ∷ more) (b ∷ bs) = record { start = a; end = b } ∷ lines-of more bs
+
+-- a sheet that passes questions 2 to 6 of document 01, with a label room of 32 bits
+pub record Sheeted (text starts ends q o l : List ℕ) : Type 0 where
+  pub paired : length starts ≡ length ends
+  pub small : length text ≤ 1048576
+  pub listed : length starts ≤ 1048576
+  pub fed : Fed text (lines-of starts ends)
+  pub room : (2 * total (lines-of starts ends) + 1) * 8 ≤ length q
+  pub stack : total (lines-of starts ends) * 4 ≤ length o
+  pub label-room : length l < 2 ^ 32
+
+-- the line is at its end, or the sheet is refused
+unfoldable pub overOf : ℕ → ℕ → Refused → Bool
+overOf n pos (refused.At p) = true
+overOf n pos refused.No = leb n pos
+
+-- the end of the lines
+abbrev pub ending : ℕ → State → State
+ending b s = ended-at b (s .inside) s
+
+-- what the end asks: a refused sheet is outside verbatim, and any other has its enter in the queue
+unfoldable pub Closing : Refused → Parser → List ℕ → Type 0
+Closing (refused.At a) p q = p .inside ≡ inside.No
+Closing refused.No p q = OpenedBy (p .inside) p q

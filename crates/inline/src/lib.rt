@@ -1,0 +1,177 @@
+// The parser of `inline.rs` over lent rooms: one token, the tokens of a line, all lines, and the end.
+ghost use mathlib.Core.Path.{_≡_};
+ghost use mathlib.Core.List.{List};
+ghost use Prim.Native.Nat.{ℕ, _+_, _*_, _^_, _≤_, _<_};
+ghost use lib.ListN.{length};
+ghost use Rattle.reading.specs.Machine.{byte-before};
+ghost use Rattle.reading.specs.Verbatim as said;
+ghost use Rattle.reading.specs.Reading.{step, line as line-of, read as read-of, start, sheet};
+ghost use Rattle.rooms.specs.Standing.{stands, viewed, Stepped, Changed, Room, staying};
+ghost use Rattle.inline.specs.Before.{Before, Lined, Sheeted, Stood, ending, overOf, Closing, lines-of};
+use lex::Cursor;
+use lex::Next;
+use reading::Inside;
+use reading::Link;
+use reading::Place;
+use reading::Refused;
+use rooms::Margin;
+use rooms::Parser;
+use rooms::Span;
+
+// The next token of the line, if there is one.
+fn parse_event(
+    text: &[u8],
+    line: &[u8],
+    m: Margin,
+    reading: u32,
+    p: Parser,
+    queue: &mut [u32],
+    openers: &mut [u32],
+    labels: &mut [u8],
+) -> Parser
+    requires { ⌜ Before (now line) m p (now queue) (now openers) (now labels) ⌝ }
+    ensures { λ r. ⌜ Stepped p (now (queue .entry)) (now (openers .entry)) (now (labels .entry)) r (now (queue .exit)) (now (openers .exit)) (now (labels .exit)) (λ s. step (sheet (now (text .entry)) reading (length (now (labels .entry)))) (viewed m (now (line .entry))) (record { cursor = p .cursor; state = s })) ⌝ }
+{
+    let c = p.cursor;
+    let lexed = c.next(line);
+    let behind = lexed.cursor;
+    let next = lexed.token;
+    let Next::Some(t) = next else {
+        return p;
+    };
+    let h = Span {
+        from: c.pos,
+        to: c.pos + t.len,
+    };
+    let out = rooms::moved(p, behind);
+    let kind = t.kind;
+    let w = p.inside;
+    match w {
+        Inside::No => {
+            outside::outside(
+                text,
+                line,
+                m,
+                h,
+                tables::role_of(kind),
+                out,
+                queue,
+                openers,
+                labels,
+            )
+        }
+        Inside::Verbatim(v) => verbatim::in_verbatim(line, m, h, t, v, reading, out, queue),
+    }
+}
+
+// The line is at its end, or the sheet is refused.
+fn over(n: usize, p: Parser) -> bool
+    ensures { λ r. ⌜ r ≡ overOf n (p .cursor .pos) (p .refused) ⌝ }
+{
+    let c = p.cursor;
+    let refused = p.refused;
+    match refused {
+        Refused::At(_) => true,
+        Refused::No => n <= c.pos,
+    }
+}
+
+// The tokens of a line: each takes a byte at least.
+fn read_line(
+    text: &[u8],
+    line: &[u8],
+    m: Margin,
+    reading: u32,
+    p: Parser,
+    queue: &mut [u32],
+    openers: &mut [u32],
+    labels: &mut [u8],
+) -> Parser
+    requires { ⌜ Lined (now text) (now line) m reading p (now queue) (now openers) (now labels) ⌝ }
+    ensures { λ r. ⌜ Stood r (now (queue .exit)) (now (openers .exit)) (now (labels .exit)) (line-of (sheet (now (text .entry)) reading (length (now (labels .entry)))) (viewed m (now (line .entry))) (stands p (now (queue .entry)) (now (openers .entry)) (now (labels .entry)))) ⌝ }
+{
+    let n = line.len();
+    let mut out = verbatim::begun(reading, p);
+    let mut left = n;
+    while 0 < left {
+        if over(n, out) {
+            return out;
+        }
+        out = parse_event(text, line, m, reading, out, queue, openers, labels);
+        left -= 1;
+    }
+    out
+}
+
+// Where a line starts, and the byte before it.
+fn margin_of(text: &[u8], start: usize) -> Margin
+    requires { ⌜ start ≤ length (now text) ⌝ }
+    ensures { λ r. ⌜ r ≡ record { base = start; before = byte-before (now (text .entry)) start } ⌝ }
+{
+    if start == 0 {
+        return Margin { base: 0, before: 0 };
+    }
+    Margin {
+        base: start,
+        before: text[start - 1],
+    }
+}
+
+// Nothing is queued, open or refused at first.
+fn fresh() -> Parser
+    ensures { λ r. ⌜ ((q o l : List ℕ) → stands r q o l ≡ start) ⌝ }
+    ensures { λ r. ⌜ r .labels ≡ 0 ⌝ }
+{
+    Parser {
+        cursor: Cursor::new(0, false),
+        events: 0,
+        openers: 0,
+        inside: Inside::No,
+        last: atoms::no_str(),
+        labels: 0,
+        fits: true,
+        links: Link(0),
+        refused: Refused::No,
+    }
+}
+
+// The end: a verbatim that is still open gets its exit.
+fn finish(end: usize, p: Parser, queue: &mut [u32]) -> Parser
+    requires { ⌜ end < 2 ^ 32 ⌝ }
+    requires { ⌜ Room 1 p (now queue) ⌝ }
+    requires { ⌜ Closing (p .refused) p (now queue) ⌝ }
+    ensures { λ r. ⌜ ((o : List ℕ) → Changed p (now (queue .entry)) o r (now (queue .exit)) o (staying p (ending end))) ⌝ }
+{
+    let refused = p.refused;
+    match refused {
+        Refused::At(_) => p,
+        Refused::No => verbatim::ended_at(Place(end as u32), p, queue),
+    }
+}
+
+// All lines of a sheet, each from its start to before its end, and the end.
+pub fn parse(
+    text: &[u8],
+    starts: &[usize],
+    ends: &[usize],
+    reading: u32,
+    queue: &mut [u32],
+    openers: &mut [u32],
+    labels: &mut [u8],
+) -> Parser
+    requires { ⌜ Sheeted (now text) (now starts) (now ends) (now queue) (now openers) (now labels) ⌝ }
+    ensures { λ r. ⌜ Stood r (now (queue .exit)) (now (openers .exit)) (now (labels .exit)) (read-of (sheet (now (text .entry)) reading (length (now (labels .entry)))) (lines-of (now (starts .entry)) (now (ends .entry)))) ⌝ }
+{
+    let mut p = fresh();
+    let mut end = 0;
+    let mut i = 0;
+    while i < starts.len() {
+        let from = starts[i];
+        end = ends[i];
+        let m = margin_of(text, from);
+        let line = &text[from..end];
+        p = read_line(text, line, m, reading, p, queue, openers, labels);
+        i += 1;
+    }
+    finish(end, p, queue)
+}
