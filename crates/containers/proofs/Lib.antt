@@ -1,3 +1,3 @@
 pub mod Trying
 pub mod Closing
-pub mod Tried
+pub mod Sought

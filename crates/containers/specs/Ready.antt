@@ -1,7 +1,8 @@
 -- What a token's functions ask: a token of a line, a cursor behind it, and rooms for what the rest of the line can give.
 use Prim.Native.Nat.{ℕ, suc, _+_, _-_, _*_, _^_, _≤_, _<_}
 use mathlib.Core.Path.{_≡_}
-use mathlib.Core.List.{List, _∷_}
+use mathlib.Core.List.{List, [], _∷_}
+use mathlib.Core.Bool.{Bool, true, false}
 use lib.ListN.{length}
 use Rattle.lex.specs.Lexer.{nextOf, peekOf}
 use Rattle.lex.proofs.Laws.{Sound}
@@ -9,12 +10,13 @@ use Rattle.reading.specs.declared.Sort.{Sort}
 use Rattle.reading.specs.declared.Opener.{Opener}
 use Rattle.reading.specs.Events.{str}
 use Rattle.reading.specs.Machine.{View, State, Turn, Here, put, with-openers}
-use Rattle.reading.specs.Containers.{closes-span}
+use Rattle.reading.specs.Containers.{closes-span, may-close}
 use Rattle.reading.specs.Naming.{Named}
-use mathlib.Core.Bool.{Bool}
 use Rattle.rooms.specs.declared.Parser.{Parser}
 use Rattle.rooms.specs.declared.Margin.{Margin}
 use Rattle.rooms.specs.declared.Span.{Span}
+use Rattle.rooms.specs.declared.Found.{Found}
+use Rattle.rooms.specs.declared.Found.the-variants.{At, Nothing}
 use Rattle.rooms.specs.Records.{opens}
 
 pub record Ready (line : List ℕ) (m : Margin) (h : Span) (p : Parser) (q o : List ℕ) : Type 0 where
@@ -46,3 +48,8 @@ along-with v h sort span p s =
 -- a span's end, with the token peeked at
 abbrev pub span-closed : View → Here → Bool → Opener → State → Turn
 span-closed v h image o s = let p = peekOf (v .bytes) (h .cursor) in closes-span v h image o (p .cursor) (p .token) s
+
+-- the place of the newest opener of a stack, if it may close
+unfoldable pub closable : View → Here → State → List Opener → Found
+closable v h s [] = Nothing
+closable v h s (o ∷ os) = elim (may-close v h s o) [ true ↦ At (length os) | false ↦ Nothing ]

@@ -6,12 +6,13 @@ ghost use lib.ListN.{length};
 ghost use Rattle.lex.specs.Lexer.{peekOf};
 ghost use Rattle.lex.specs.declared.lex.Cursor.{Cursor};
 ghost use Rattle.reading.specs.Machine.{Rules};
-ghost use Rattle.reading.specs.Naming.{Names};
+ghost use Rattle.reading.specs.Naming.{Names, Named};
 ghost use Rattle.reading.specs.Tokens.{closing-of};
 ghost use Rattle.reading.specs.Containers as said;
+ghost use Rattle.rooms.specs.Records.{opens};
 ghost use Rattle.rooms.specs.Standing.{stands, viewed, here, moved, Changed, Stepped, Fits, Room, staying};
 ghost use Rattle.links.specs.Linked.{sheetOf};
-ghost use Rattle.containers.specs.Ready.{Ready, Shelving, along-with, span-closed};
+ghost use Rattle.containers.specs.Ready.{Ready, Shelving, along-with, span-closed, closable};
 use lex::Next;
 use reading::DelimEventKind;
 use reading::Marks;
@@ -232,7 +233,23 @@ fn close_as(
     }
 }
 
-// A token closes the newest opener that it can close, with which all newer ones are discarded; or opens; or is what it is alone.
+// The opener that a token closes: the newest that it can close is sought, and only that one is tried.
+fn tried(line: &[u8], m: Margin, h: Span, closes: u32, p: Parser, openers: &[u32]) -> Found
+    requires { ⌜ h .from ≤ length (now line) ⌝ }
+    requires { ⌜ p .openers * 4 ≤ length (now openers) ⌝ }
+    requires { ⌜ Named (opens (p .openers) (now openers)) (p .events) ⌝ }
+    ensures { λ r. ⌜ ((q l : List ℕ) → r ≡ closable (viewed m (now (line .entry))) (here h p) (stands p q (now (openers .entry)) l) (said.seek closes (opens (p .openers) (now (openers .entry))))) ⌝ }
+{
+    let Found::At(i) = rooms::seek(openers, p.openers, closes) else {
+        return Found::Nothing;
+    };
+    if may_close(line, m, h, rooms::opener_at(openers, i), p) {
+        return Found::At(i);
+    }
+    Found::Nothing
+}
+
+// A token closes an opener, with which all newer ones are discarded; or opens; or is what it is alone.
 pub fn container(
     text: &[u8],
     line: &[u8],
@@ -248,14 +265,11 @@ pub fn container(
     requires { ⌜ Shelving p (now labels) ⌝ }
     ensures { λ r. ⌜ ((rules : Rules) → Stepped p (now (queue .entry)) (now (openers .entry)) (now (labels .entry)) r (now (queue .exit)) (now (openers .exit)) (now (labels .exit)) (said.container (sheetOf rules (now (text .entry)) (now (labels .entry))) (viewed m (now (line .entry))) (here h p) k)) ⌝ }
 {
-    let Found::At(i) = rooms::seek(openers, p.openers, k.closes) else {
+    let Found::At(i) = tried(line, m, h, k.closes, p, openers) else {
         return opens_or(line, m, h, k, p, queue, openers);
     };
     let o = rooms::opener_at(openers, i);
-    if may_close(line, m, h, o, p) {
-        let mut cut = p;
-        cut.openers = i;
-        return close_as(text, line, m, h, o, cut, queue, openers, labels);
-    }
-    opens_or(line, m, h, k, p, queue, openers)
+    let mut cut = p;
+    cut.openers = i;
+    close_as(text, line, m, h, o, cut, queue, openers, labels)
 }

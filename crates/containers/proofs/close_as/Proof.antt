@@ -1,4 +1,4 @@
-use Rattle.containers.proofs.Tried.{named-pair, named-span, named-link, link-small, pair-step, span-step, link-as}
+use Rattle.containers.proofs.Sought.{named-pair, named-span, named-link, link-small, pair-step, span-step, link-as}
 use Rattle.reading.specs.Tokens.{closing-of}
 use native.Mathlib.Omega.{arith}
 use mathlib.Core.Path.{sym, _∙_}

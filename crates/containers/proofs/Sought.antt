@@ -15,7 +15,7 @@ use Rattle.reading.specs.declared.DelimEventKind.{DelimEventKind}
 use Rattle.reading.specs.declared.DelimEventKind.the-variants as makes
 use Rattle.reading.specs.declared.Sort.{Sort}
 use Rattle.reading.specs.declared.Sort.the-variants as sort
-use Rattle.reading.specs.Machine.{View, Rules, Sheet, State, Turn}
+use Rattle.reading.specs.Machine.{View, Rules, Sheet, State, Turn, Here, with-openers}
 use Rattle.reading.specs.Tokens.{closing-of}
 use Rattle.reading.specs.Containers.{seek, may-close, closes-pair, close-as, opens-or, tried, container}
 use Rattle.reading.specs.Naming.{Names, Named}
@@ -27,10 +27,10 @@ use Rattle.rooms.specs.declared.Found.{Found}
 use Rattle.rooms.specs.declared.Found.the-variants.{At, Nothing}
 use Rattle.rooms.specs.Records.{openerAt, opens, place}
 use Rattle.rooms.specs.Standing.{stands, viewed, here, moved, staying, Changed, Stepped}
+use Rattle.rooms.proofs.Rows.{pile-length}
 use Rattle.rooms.proofs.Search.{found-at, place-none}
-use Rattle.rooms.proofs.Changing.{changed-cursor, changed-stepped}
 use Rattle.links.specs.Linked.{linked, sheetOf}
-use Rattle.containers.specs.Ready.{Ready, Shelving, span-closed}
+use Rattle.containers.specs.Ready.{Ready, Shelving, span-closed, closable}
 use Rattle.containers.proofs.Trying.{counting}
 
 -- what an opener names, by what its end makes
@@ -123,63 +123,127 @@ module _ (m : Margin) (text line : List ℕ) (h : Span) (x : Opener) (p : Parser
         labels = s .labels;
       })
 
+-- the opener that is tried
+module _ (v : View) (h : Here) (s : State) (o : List ℕ) (mark n : ℕ) (f : Found) (isf : f ≡ place (seek mark (opens n o))) where
+  pub sought-none : f ≡ Nothing → Nothing ≡ closable v h s (seek mark (opens n o))
+  unfolding closable
+  sought-none e = sym (ap (closable v h s) (place-none (seek mark (opens n o)) (sym isf ∙ e)))
+
+  module _ (i : ℕ) (e : f ≡ At i) where
+    found : (i < n) × (seek mark (opens n o) ≡ openerAt o i ∷ opens i o)
+    found = found-at o mark n i (sym isf ∙ e)
+
+    pub sought-within : i < n
+    sought-within = found .0
+
+    pub sought-names : (x : Opener) → x ≡ openerAt o i → (k : ℕ) → Named (opens n o) k → x .event < k
+    unfolding Named
+    sought-names x isx k w =
+        named-event x k (closing-of (x .sort))
+        (subst (λ (y : Opener). Names (closing-of (y .sort)) y k) (sym isx)
+        (subst (λ (os : List Opener). Named os k) (found .1) (named-seek mark (opens n o) k w) .0))
+
+    module _ (x : Opener) (isx : x ≡ openerAt o i) where
+      sought : seek mark (opens n o) ≡ x ∷ opens i o
+      sought = found .1 ∙ ap (λ (y : Opener). y ∷ opens i o) (sym isx)
+
+      pub sought-closes : may-close v h s x ≡ true → At i ≡ closable v h s (seek mark (opens n o))
+      unfolding closable
+      sought-closes t = sym (rw (sought, t, closable) (ap At (pile-length openerAt i o)))
+
+      pub sought-not : may-close v h s x ≡ false → Nothing ≡ closable v h s (seek mark (opens n o))
+      unfolding closable
+      sought-not t = sym (rw (sought, t, closable))
+
+-- what the answer of the trial says
+module _ (v : View) (h : Here) (s : State) where
+  closable-place : (os : List Opener) (i : ℕ) → closable v h s os ≡ At i → place os ≡ At i
+  unfolding closable place
+  closable-place [] i e = e
+  closable-place (o ∷ os) i e = go (may-close v h s o) e
+    where
+      go : (b : Bool) → elim b [ true ↦ At (length os) | false ↦ Nothing ] ≡ At i → At (length os) ≡ At i
+      go true e = e
+      go false e = let z : _≡_ {A = ℕ} 0 1 = cc in absurd (omega arith)
+
+  closable-may : (o : Opener) (os : List Opener) (i : ℕ) → closable v h s (o ∷ os) ≡ At i → may-close v h s o ≡ true
+  unfolding closable
+  closable-may o os i e = go (may-close v h s o) e
+    where
+      go : (b : Bool) → elim b [ true ↦ At (length os) | false ↦ Nothing ] ≡ At i → b ≡ true
+      go true e = refl
+      go false e = let z : _≡_ {A = ℕ} 0 1 = cc in absurd (omega arith)
+
+  tried-none : (x : Sheet) (k : Marks) (os : List Opener) → closable v h s os ≡ Nothing
+      → tried x v h k os s ≡ record { cursor = h .cursor; state = opens-or v h (k .alone) (k .opens) s }
+  unfolding closable tried
+  tried-none x k [] e = refl
+  tried-none x k (o ∷ os) e = go (may-close v h s o) e
+    where
+      go : (b : Bool) → elim b [ true ↦ At (length os) | false ↦ Nothing ] ≡ Nothing
+          → _≡_ {A = Turn}
+          (elim b [
+            | true ↦ close-as x v h o (closing-of (o .sort)) (with-openers os s)
+            | false ↦ record { cursor = h .cursor; state = opens-or v h (k .alone) (k .opens) s }
+          ]) (record { cursor = h .cursor; state = opens-or v h (k .alone) (k .opens) s })
+      go true e = let z : _≡_ {A = ℕ} 0 1 = cc in absurd (omega arith)
+      go false e = refl
+
 -- a token tried
 module _ (m : Margin) (text line : List ℕ) (h : Span) (k : Marks) (p : Parser) (q o l : List ℕ) (f : Found)
-    (isf : f ≡ place (seek (k .closes) (opens (p .openers) o))) where
+    (isf : f ≡ closable (viewed m line) (here h p) (stands p q o l) (seek (k .closes) (opens (p .openers) o))) where
   pub none-step : f ≡ Nothing → p .labels ≤ length l → (r : Parser) (q′ o′ : List ℕ)
       → Changed p q o r q′ o′ (staying p (opens-or (viewed m line) (here h p) (k .alone) (k .opens)))
       → (rules : Rules) → Stepped p q o l r q′ o′ l (container (sheetOf rules text l) (viewed m line) (here h p) k)
-  unfolding tried
   none-step e fits r q′ o′ c rules =
       record {
-        same = c .same l ∙ rw (place-none (seek (k .closes) (opens (p .openers) o)) (sym isf ∙ e));
+        same = c .same l
+            ∙ sym (tried-none (viewed m line) (here h p) (stands p q o l) (sheetOf rules text l) k (seek (k .closes) (opens (p .openers) o)) (sym isf ∙ e));
         labels = omega (arith, c .labels, fits);
       }
 
   module _ (i : ℕ) (e : f ≡ At i) where
-    found : (i < p .openers) × (seek (k .closes) (opens (p .openers) o) ≡ openerAt o i ∷ opens i o)
-    found = found-at o (k .closes) (p .openers) i (sym isf ∙ e)
+    at : (i < p .openers) × (seek (k .closes) (opens (p .openers) o) ≡ openerAt o i ∷ opens i o)
+    at = found-at o (k .closes) (p .openers) i (closable-place (viewed m line) (here h p) (stands p q o l) (seek (k .closes) (opens (p .openers) o)) i (sym isf ∙ e))
 
     pub found-within : i < p .openers
-    found-within = found .0
+    found-within = at .0
 
     named-there : Named (opens (p .openers) o) (p .events) → Named (openerAt o i ∷ opens i o) (p .events)
-    named-there w = subst (λ (os : List Opener). Named os (p .events)) (found .1) (named-seek (k .closes) (opens (p .openers) o) (p .events) w)
+    named-there w = subst (λ (os : List Opener). Named os (p .events)) (at .1) (named-seek (k .closes) (opens (p .openers) o) (p .events) w)
+
+    -- the newer openers are discarded
+    pub found-ready : Ready line m h p q o → Ready line m h (counting p i) q o
+    unfolding Named
+    found-ready w =
+        record {
+          long = w .long;
+          within = w .within;
+          small = w .small;
+          place = w .place;
+          sound = w .sound;
+          room = w .room;
+          few = w .few;
+          shallow = omega (arith, at .0, w .shallow);
+          stack = omega (arith, at .0, w .stack);
+          named = named-there (w .named) .1;
+        }
 
     module _ (x : Opener) (isx : x ≡ openerAt o i) where
       pub found-names : Named (opens (p .openers) o) (p .events) → Names (closing-of (x .sort)) x (p .events)
       unfolding Named
       found-names w = subst (λ (y : Opener). Names (closing-of (y .sort)) y (p .events)) (sym isx) (named-there w .0)
 
-      -- the newer openers are discarded
-      pub found-ready : Ready line m h p q o → Ready line m h (counting p i) q o
-      unfolding Named
-      found-ready w =
-          record {
-            long = w .long;
-            within = w .within;
-            small = w .small;
-            place = w .place;
-            sound = w .sound;
-            room = w .room;
-            few = w .few;
-            shallow = omega (arith, found .0, w .shallow);
-            stack = omega (arith, found .0, w .stack);
-            named = named-there (w .named) .1;
-          }
+      there : seek (k .closes) (opens (p .openers) o) ≡ x ∷ opens i o
+      there = at .1 ∙ ap (λ (y : Opener). y ∷ opens i o) (sym isx)
 
-      sought : seek (k .closes) (opens (p .openers) o) ≡ x ∷ opens i o
-      sought = found .1 ∙ ap (λ (y : Opener). y ∷ opens i o) (sym isx)
+      may : may-close (viewed m line) (here h p) (stands p q o l) x ≡ true
+      may =
+          closable-may (viewed m line) (here h p) (stands p q o l) x (opens i o) i
+          (subst (λ (os : List Opener). closable (viewed m line) (here h p) (stands p q o l) os ≡ At i) there (sym isf ∙ e))
 
-      pub closed-step : may-close (viewed m line) (here h p) (stands p q o l) x ≡ true → (rules : Rules) (r : Parser) (q′ o′ l′ : List ℕ)
+      pub closed-step : (rules : Rules) (r : Parser) (q′ o′ l′ : List ℕ)
           → Stepped (counting p i) q o l r q′ o′ l′ (close-as (sheetOf rules text l) (viewed m line) (here h p) x (closing-of (x .sort)))
           → Stepped p q o l r q′ o′ l′ (container (sheetOf rules text l) (viewed m line) (here h p) k)
       unfolding tried
-      closed-step t rules r q′ o′ l′ s = record { same = s .same ∙ sym (rw (sought, t, tried)); labels = s .labels }
-
-      pub barred-step : may-close (viewed m line) (here h p) (stands p q o l) x ≡ false → p .labels ≤ length l → (r : Parser) (q′ o′ : List ℕ)
-          → Changed p q o r q′ o′ (staying p (opens-or (viewed m line) (here h p) (k .alone) (k .opens)))
-          → (rules : Rules) → Stepped p q o l r q′ o′ l (container (sheetOf rules text l) (viewed m line) (here h p) k)
-      unfolding tried
-      barred-step t fits r q′ o′ c rules =
-          record { same = c .same l ∙ sym (rw (sought, t, tried)); labels = omega (arith, c .labels, fits) }
+      closed-step rules r q′ o′ l′ s = record { same = s .same ∙ sym (rw (there, may, tried)); labels = s .labels }
