@@ -1,26 +1,24 @@
 -- The end of a container, of a pair of quotes and of a span.
-use Prim.Native.Nat.{ℕ, suc, _+_, _-_, _*_, _≤_, _<_}
+use Prim.Native.Nat.{ℕ, suc, _+_, _≤_}
 use mathlib.Core.Path.{_≡_, refl, sym, ap, _∙_, subst}
 use mathlib.Core.List.{List, [], _∷_}
-use mathlib.Core.Bool.{Bool, true, false}
+use mathlib.Core.Bool.{Bool}
 use native.Mathlib.Omega.{arith}
 use lib.ListN.{length, length-append}
-use Rattle.lex.specs.declared.lex.Cursor.{Cursor}
 use Rattle.lex.specs.declared.lex.Token.{Token}
-use Rattle.lex.specs.declared.lex.Next.{Next}
 use Rattle.lex.specs.declared.lex.Next.the-variants as next
 use Rattle.lex.specs.declared.lex.Lexed.{Lexed}
-use Rattle.lex.specs.Lexer.{nextOf, peekOf}
+use Rattle.lex.specs.Lexer.{peekOf}
 use Rattle.lex.proofs.Laws.{Sound, peek-kept}
 use Rattle.reading.specs.declared.Event.{Event}
 use Rattle.reading.specs.declared.Last.{Last}
 use Rattle.reading.specs.declared.Sort.{Sort}
 use Rattle.reading.specs.declared.Opener.{Opener}
 use Rattle.reading.specs.Events.{Home, nowhere, event, becomes, str}
-use Rattle.reading.specs.Machine.{View, State, Turn, Here, amend, puts, put, no-str}
+use Rattle.reading.specs.Machine.{View, State, Turn, amend, puts, put, no-str}
 use Rattle.reading.specs.Tokens.{role-of, link-sort}
 use Rattle.reading.specs.Containers.{Along, along, by-itself, takes, span-with, closes-span, closes-pair}
-use Rattle.reading.proofs.Places.{Taken, peeked-taken, peek-sound, peek-place}
+use Rattle.reading.proofs.Places.{peeked-taken, peek-sound, peek-place}
 use Rattle.tables.specs.declared.Taking.{Taking}
 use Rattle.tables.specs.declared.Taking.the-variants as taking
 use Rattle.tables.specs.Tables.{taken-as}
@@ -31,7 +29,7 @@ use Rattle.rooms.specs.Records.{eventAt, events}
 use Rattle.rooms.specs.Standing.{stands, viewed, here, moved, staying, Changed}
 use Rattle.rooms.proofs.Rows.{rows-length}
 use Rattle.rooms.proofs.Changing.{then, changed-events}
-use Rattle.containers.specs.Ready.{Ready, along-with, span-closed}
+use Rattle.containers.specs.Ready.{along-with, span-closed}
 
 -- a pair: the opener's event becomes the first, and the second is put
 pub pair-change : (m : Margin) (line : List ℕ) (h : Span) (first second : ℕ) (x : Opener) (p : Parser) (q o q₁ : List ℕ) (k : Home) → k ≡ nowhere

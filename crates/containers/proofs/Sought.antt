@@ -1,11 +1,10 @@
 -- The close of each sort, and a token tried as a closer, then as an opener, then alone.
-use Prim.Native.Nat.{ℕ, suc, _+_, _-_, _*_, _≤_, _<_}
+use Prim.Native.Nat.{ℕ, _+_, _≤_, _<_}
 use mathlib.Core.Path.{_≡_, refl, sym, ap, _∙_, subst}
 use mathlib.Core.List.{List, [], _∷_}
 use mathlib.Core.Bool.{Bool, true, false}
 use native.Mathlib.Omega.{arith}
 use lib.ListN.{length}
-use Rattle.lex.specs.declared.lex.Cursor.{Cursor}
 use Rattle.lex.specs.Lexer.{peekOf}
 use Rattle.reading.specs.declared.Opener.{Opener}
 use Rattle.reading.specs.declared.Marks.{Marks}

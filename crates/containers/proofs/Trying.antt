@@ -1,10 +1,9 @@
 -- The tests of closers and openers, and an opener put on the stack.
-use Prim.Native.Nat.{ℕ, suc, _+_, _-_, _*_, _≤_, _<_}
-use mathlib.Core.Path.{_≡_, refl, sym, ap, _∙_, subst}
-use mathlib.Core.List.{List, [], _∷_}
+use Prim.Native.Nat.{ℕ, _+_, _≤_, _<_}
+use mathlib.Core.Path.{_≡_, sym, ap, _∙_, subst}
+use mathlib.Core.List.{List, _∷_}
 use mathlib.Core.Bool.{Bool, true, false, not, _&&_, _||_}
 use native.Mathlib.Numerals.{add-one}
-use native.Mathlib.Omega.{arith}
 use borrow.Author.Tests.{le-leb, lt-leb}
 use lib.Dec.{eqb}
 use lib.ListN.{length, getD}
@@ -15,7 +14,7 @@ use Rattle.reading.specs.declared.Opener.{Opener}
 use Rattle.reading.specs.declared.Opens.{Opens}
 use Rattle.reading.specs.declared.Opens.the-variants as opening
 use Rattle.reading.specs.Events.{str}
-use Rattle.reading.specs.Machine.{View, State, Turn, Here, prev, put, with-openers}
+use Rattle.reading.specs.Machine.{View, State, Here, prev, put, with-openers}
 use Rattle.reading.specs.Tokens.{two-way, may-be-empty, is-single, unclosed}
 use Rattle.reading.specs.Containers.{may-close, blank-after, may-open, open-as, opens-or}
 use Rattle.rooms.specs.declared.Parser.{Parser}

@@ -4,9 +4,8 @@ use mathlib.Core.Path.{_≡_, refl, sym, ap, _∙_, subst}
 use mathlib.Core.List.{List, [], _∷_}
 use native.Mathlib.Numerals.{add-one}
 use native.Mathlib.Omega.{arith}
-use lib.ListN.{length, getD, take, drop, drop-of-length-le}
+use lib.ListN.{length, getD, drop, drop-of-length-le}
 use Rattle.reading.specs.declared.Line.{Line}
-use Rattle.reading.specs.declared.Place.{Place}
 use Rattle.reading.specs.declared.Refused.{Refused}
 use Rattle.reading.specs.declared.Refused.the-variants as refused
 use Rattle.reading.specs.Machine.{Sheet, State, Turn, byte-before, viewOf}
@@ -19,7 +18,7 @@ use Rattle.reading.proofs.Theorems.{Any, rising, free}
 use Rattle.rooms.specs.declared.Parser.{Parser}
 use Rattle.rooms.specs.declared.Margin.{Margin}
 use Rattle.rooms.specs.Records.{eventAt}
-use Rattle.rooms.specs.Standing.{stands, turn, staying, Changed}
+use Rattle.rooms.specs.Standing.{stands, staying, Changed}
 use Rattle.rooms.proofs.Rows.{rows-length}
 use Rattle.inline.specs.Before.{Lined, Stood, Sheeted, Closing, ending, lines-of}
 use Rattle.inline.proofs.Turning.{good-opened}

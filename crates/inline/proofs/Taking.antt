@@ -1,15 +1,14 @@
 -- One token: what it asks of the layers below, and that their answer is the definition's step.
-use Prim.Native.Nat.{ℕ, zero, suc, _+_, _-_, _*_, _^_, _≤_, _<_}
+use Prim.Native.Nat.{ℕ, zero, suc, _+_, _-_, _*_, _≤_}
 use mathlib.Core.Path.{_≡_, refl, sym, ap, _∙_, subst}
 use mathlib.Core.List.{List, []}
-use mathlib.Core.Logic.{_⊎_, inl, inr, ⊎-elim}
-use native.Mathlib.Omega.{arith}
+use mathlib.Core.Logic.{inl, inr, ⊎-elim}
 use mathlib.Core.Bool.{true}
+use native.Mathlib.Omega.{arith}
 use lib.Dec.{leb}
 use lib.ListN.{length, getD}
 use Rattle.lex.specs.declared.lex.Cursor.{Cursor}
 use Rattle.lex.specs.declared.lex.Token.{Token}
-use Rattle.lex.specs.declared.lex.Next.{Next}
 use Rattle.lex.specs.declared.lex.Next.the-variants as next
 use Rattle.lex.specs.declared.lex.Lexed.{Lexed}
 use Rattle.lex.specs.Lexer.{nextOf}
@@ -22,7 +21,7 @@ use Rattle.reading.specs.declared.Role.{Role}
 use Rattle.reading.specs.declared.Verbatim.{Verbatim}
 use Rattle.reading.specs.declared.Inside.{Inside}
 use Rattle.reading.specs.declared.Inside.the-variants as inside
-use Rattle.reading.specs.Machine.{byte-before, View, Sheet, State, Turn, Here, rulesOf, no-str}
+use Rattle.reading.specs.Machine.{byte-before, View, Sheet, State, Turn, rulesOf, no-str}
 use Rattle.reading.specs.Tokens.{role-of}
 use Rattle.reading.specs.Verbatim.{in-verbatim, ended-at}
 use Rattle.reading.specs.Reading.{outside, by-place, here-at, on-token, step, start, sheet}

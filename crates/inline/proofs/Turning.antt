@@ -3,13 +3,11 @@
 use Prim.Native.Nat.{ℕ, zero, suc, _+_, _-_, _*_, _^_, _≤_, _<_}
 use mathlib.Core.Path.{_≡_, refl, sym, ap, _∙_, subst}
 use mathlib.Core.List.{List}
-use mathlib.Core.Bool.{Bool, true, false}
-use mathlib.Core.Logic.{_⊎_, inl, inr, ⊎-elim}
+use mathlib.Core.Bool.{true, false}
+use mathlib.Core.Logic.{inl, inr, ⊎-elim}
 use native.Mathlib.Omega.{arith}
 use borrow.Author.Tests.{leb-true, leb-false}
-use lib.Dec.{leb}
 use lib.ListN.{length, getD}
-use Rattle.reading.specs.declared.Place.{Place}
 use Rattle.reading.specs.declared.Inside.{Inside}
 use Rattle.reading.specs.declared.Inside.the-variants as inside
 use Rattle.reading.specs.declared.Refused.{Refused}
@@ -17,7 +15,7 @@ use Rattle.reading.specs.declared.Refused.the-variants as refused
 use Rattle.reading.specs.Machine.{View, Sheet, State, Turn}
 use Rattle.reading.specs.Verbatim.{nothing}
 use Rattle.reading.specs.Reading.{step, steps, unless, begun, line as line-of, sheet}
-use Rattle.reading.proofs.Good.{Out, In, GoodBy, LastOk, Ends}
+use Rattle.reading.proofs.Good.{GoodBy, Ends}
 use Rattle.reading.proofs.Ends.{ends-last, ends-wide, ends-some}
 use Rattle.reading.proofs.Queue.{inner-enters}
 use Rattle.reading.proofs.Named.{good-named}
@@ -31,8 +29,8 @@ use Rattle.rooms.specs.declared.Margin.{Margin}
 use Rattle.rooms.specs.Records.{eventAt, events, openerAt, opens}
 use Rattle.rooms.specs.Standing.{stands, turn, viewed, Stepped}
 use Rattle.rooms.proofs.Rows.{rows-length, rows-at, pile-length}
-use Rattle.verbatim.specs.Opened.{Opened, OpenedBy, Begun}
-use Rattle.outside.specs.Outside.{Ending, Ended}
+use Rattle.verbatim.specs.Opened.{OpenedBy, Begun}
+use Rattle.outside.specs.Outside.{Ended}
 use Rattle.inline.specs.Before.{Before, Lined, Stood, overOf}
 
 -- the test of a line's end, taken apart

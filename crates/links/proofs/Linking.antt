@@ -1,7 +1,7 @@
 -- A link's end: what the label and the two changed events make of the state.
-use Prim.Native.Nat.{ℕ, suc, _+_, _-_, _*_, _≤_, _<_}
-use mathlib.Core.Path.{_≡_, refl, sym, ap, _∙_, subst}
-use mathlib.Core.List.{List, []}
+use Prim.Native.Nat.{ℕ, suc, _+_, _-_, _≤_, _<_}
+use mathlib.Core.Path.{_≡_, sym, ap, _∙_}
+use mathlib.Core.List.{List}
 use mathlib.Core.Bool.{Bool}
 use native.Mathlib.Numerals.{add-one}
 use native.Mathlib.Omega.{arith}
@@ -12,10 +12,10 @@ use Rattle.reading.specs.declared.Place.{Place}
 use Rattle.reading.specs.declared.Target.{Target}
 use Rattle.reading.specs.declared.Opener.{Opener}
 use Rattle.reading.specs.Events.{place, becomes, becomes-to, enter, exit}
-use Rattle.reading.specs.Machine.{Rules, State, amend, no-str}
+use Rattle.reading.specs.Machine.{Rules, amend, no-str}
 use Rattle.reading.specs.Labels.{Shelved, label-of, shelved}
 use Rattle.reading.specs.Verbatim.{nothing}
-use Rattle.reading.specs.Containers.{closes-link, link-queue}
+use Rattle.reading.specs.Containers.{closes-link}
 use Rattle.rooms.specs.declared.Parser.{Parser}
 use Rattle.rooms.specs.declared.Margin.{Margin}
 use Rattle.rooms.specs.declared.Span.{Span}

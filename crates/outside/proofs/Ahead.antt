@@ -1,6 +1,6 @@
 -- The scans ahead: where one accepts, its events; where it does not, the token as any other.
-use Prim.Native.Nat.{ℕ, _+_, _-_, _*_, _≤_, _<_}
-use mathlib.Core.Path.{_≡_, sym, _∙_, subst}
+use Prim.Native.Nat.{ℕ, _+_, _≤_, _<_}
+use mathlib.Core.Path.{_≡_, sym, subst}
 use mathlib.Core.List.{List}
 use native.Mathlib.Omega.{arith}
 use lib.ListN.{length, drop, length-drop}
@@ -14,10 +14,7 @@ use Rattle.reading.specs.Atoms.{autolinked, named}
 use Rattle.reading.specs.Containers.{container}
 use Rattle.reading.specs.Reading.{angle, colon, noted}
 use Rattle.rooms.specs.declared.Parser.{Parser}
-use Rattle.rooms.specs.declared.Margin.{Margin}
-use Rattle.rooms.specs.declared.Span.{Span}
 use Rattle.rooms.specs.Standing.{Changed, Stepped}
-use Rattle.containers.specs.Ready.{Ready}
 
 -- what a scan accepts lies within the line
 pub scan-within : (line : List ℕ) (to n : ℕ) → n < length (drop to line) → to ≤ length line → to + n + 1 ≤ length line

@@ -1,20 +1,19 @@
 -- A `[`, with the token behind it peeked at.
-use Prim.Native.Nat.{ℕ, _+_, _-_, _*_, _≤_, _<_}
+use Prim.Native.Nat.{ℕ, _+_, _≤_}
 use mathlib.Core.Path.{_≡_, sym, ap, _∙_, subst}
 use mathlib.Core.List.{List}
-use mathlib.Core.Bool.{Bool, true, false}
+use mathlib.Core.Bool.{true, false}
 use native.Mathlib.Omega.{arith}
 use lib.ListN.{length, drop}
 use Rattle.lex.specs.declared.lex.Cursor.{Cursor}
 use Rattle.lex.specs.declared.lex.Token.{Token}
-use Rattle.lex.specs.declared.lex.Next.{Next}
 use Rattle.lex.specs.declared.lex.Next.the-variants as next
 use Rattle.lex.specs.declared.lex.Lexed.{Lexed}
 use Rattle.lex.specs.Lexer.{nextOf, peekOf}
 use Rattle.lex.proofs.Laws.{Sound, peek-kept}
 use Rattle.scan.specs.Scans.{footnoteOf}
 use Rattle.reading.specs.declared.Marks.{Marks}
-use Rattle.reading.specs.Machine.{Rules, Sheet, State, Turn, Here}
+use Rattle.reading.specs.Machine.{Sheet, State, Turn}
 use Rattle.reading.specs.Tokens.{bracket, role-of, is-caret}
 use Rattle.reading.specs.Containers.{container}
 use Rattle.reading.specs.Reading.{noted, bracketed}

@@ -1,16 +1,15 @@
 -- Each role of a token outside verbatim, and the dollars before a run of backticks.
-use Prim.Native.Nat.{ℕ, _+_, _-_, _*_, _≤_, _<_}
-use mathlib.Core.Path.{_≡_, refl, sym, ap, _∙_, subst}
+use Prim.Native.Nat.{ℕ, _+_, _-_, _≤_, _<_}
+use mathlib.Core.Path.{_≡_, refl, sym, subst}
 use mathlib.Core.List.{List}
 use mathlib.Core.Bool.{Bool, true, false}
-use mathlib.Core.Logic.{_⊎_, inl, inr}
+use mathlib.Core.Logic.{inl, inr}
 use native.Mathlib.Omega.{arith}
 use borrow.Author.Tests.{eqb-true, le-leb, lt-leb, lt-ltb, le-ltb}
 use lib.Dec.{eqb}
 use lib.ListN.{length, drop}
 use Rattle.scan.specs.Scans.{autolinkOf, symbolOf}
 use Rattle.dash.specs.Dashes.{dashesOf}
-use Rattle.reading.specs.declared.Last.{Last}
 use Rattle.reading.specs.declared.Marks.{Marks}
 use Rattle.reading.specs.declared.Role.{Role}
 use Rattle.reading.specs.declared.Role.the-variants as roles
@@ -24,10 +23,9 @@ use Rattle.reading.specs.Reading.{angle, colon, outside}
 use Rattle.rooms.specs.declared.Parser.{Parser}
 use Rattle.rooms.specs.declared.Margin.{Margin}
 use Rattle.rooms.specs.declared.Span.{Span}
-use Rattle.rooms.specs.Records.{eventAt}
 use Rattle.rooms.specs.Standing.{viewed, here, staying, Changed, Stepped}
 use Rattle.verbatim.specs.Opened.{Dollars}
-use Rattle.outside.specs.Outside.{refusing, bracketing, Ending, Ended}
+use Rattle.outside.specs.Outside.{refusing, bracketing, Ended}
 
 -- the dollars that a run takes are those of the newest event
 pub dollars-ended : (p : Parser) (q : List ℕ) (at : ℕ) → Ended p q → Dollars (taken (p .last) at) (p .events) q × (taken (p .last) at ≤ at)

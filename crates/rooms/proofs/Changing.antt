@@ -1,13 +1,12 @@
 -- One change after another, and what a change says of the parser's own numbers.
-use Prim.Native.Nat.{ℕ, _+_, _≤_}
+use Prim.Native.Nat.{ℕ, _≤_}
 use mathlib.Core.Path.{_≡_, sym, ap, _∙_, subst}
 use mathlib.Core.List.{List, []}
 use lib.ListN.{length}
-use Rattle.lex.specs.declared.lex.Cursor.{Cursor}
 use Rattle.reading.specs.Machine.{State, Turn}
 use Rattle.rooms.specs.declared.Parser.{Parser}
 use Rattle.rooms.specs.Records.{eventAt, openerAt}
-use Rattle.rooms.specs.Standing.{stands, turn, Changed, Stepped}
+use Rattle.rooms.specs.Standing.{stands, Changed, Stepped}
 use Rattle.rooms.proofs.Rows.{rows-length, pile-length}
 
 module _ (p : Parser) (q o : List ℕ) (r : Parser) (q′ o′ : List ℕ) (f : State → Turn) (c : Changed p q o r q′ o′ f) where

@@ -10,7 +10,6 @@ use lib.Seq.{sets, ext-getD, getD-set-same, getD-set-other}
 use Rattle.reading.specs.declared.Event.{Event}
 use Rattle.reading.specs.Machine.{amend}
 use Rattle.reading.proofs.Ends.{amend-out}
-use Rattle.rooms.specs.Rows.{rows}
 use Rattle.rooms.specs.Records.{eventAt, events, encode}
 use Rattle.rooms.proofs.Rows.{rows-length, rows-same, rows-at, rows-more, sets-before, sets-after, sets-at}
 

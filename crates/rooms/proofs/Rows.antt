@@ -3,12 +3,11 @@
 use Prim.Native.Nat.{ℕ, zero, suc, _+_, _-_, _≤_, _<_}
 use mathlib.Core.Path.{_≡_, refl, sym, ap, _∙_}
 use mathlib.Core.List.{List, [], _∷_, _++_}
-use mathlib.Core.Logic.{_⊎_, inl, inr, ⊎-elim}
+use mathlib.Core.Logic.{⊎-elim}
 use native.Mathlib.Nat.{eq-or-lt-of-le, le-of-suc-le-suc, add-zero, add-suc, suc-add}
-use native.Mathlib.Decide.{ℕ-discrete, decLt}
 use native.Mathlib.Omega.{arith}
 use lib.ListN.{length, getD, take, drop, set, length-append, length-set, List·getD-append}
-use lib.Seq.{sets, length-sets, ext-getD, getD-set-same, getD-set-other, getD-at, take-append-le, take-all}
+use lib.Seq.{sets, getD-set-same, getD-set-other, getD-at, take-append-le, take-all}
 use Rattle.rooms.specs.Rows.{rows, pile}
 
 module _ {R : Type 0} (read : List ℕ → ℕ → R) where

@@ -9,13 +9,11 @@ use borrow.Author.Tests.{eq-eqb, ne-eqb}
 use lib.ListN.{length, getD}
 use lib.Seq.{sets}
 use Rattle.reading.specs.declared.Opener.{Opener}
-use Rattle.reading.specs.declared.Sort.{Sort}
 use Rattle.reading.specs.Tokens.{closed-by}
 use Rattle.reading.specs.Containers.{seek}
 use Rattle.reading.proofs.Ends.{seek-none}
 use Rattle.tables.specs.Tables.{number, sort-at}
 use Rattle.tables.proofs.Tables.{sort-number}
-use Rattle.rooms.specs.declared.Found.{Found}
 use Rattle.rooms.specs.declared.Found.the-variants.{At, Nothing}
 use Rattle.rooms.specs.Rows.{pile}
 use Rattle.rooms.specs.Records.{openerAt, opens, encode-opener, place}

@@ -1,18 +1,10 @@
-use Rattle.atoms.proofs.Putting.{homed-as, put-events, autolinked-change}
-use native.Mathlib.Omega.{arith}
+-- `atoms::autolinked` meets its contract, by the laws of `Putting`.
 use mathlib.Core.List.{[], _∷_}
+use native.Mathlib.Omega.{arith}
 use borrow.Author.Needs.{needs}
+use Rattle.atoms.proofs.Putting.{homed-as, put-events, autolinked-change}
 use Rattle.atoms.proofs.autolinked.Statement.{statement}
 use Rattle.atoms.proofs.autolinked.Tie as tie
-use Rattle.atoms.proofs.autolinked.Reads as reads
-use Rattle.atoms.proofs.autolinked.Lts as lts
-use Rattle.atoms.proofs.homed.Reads as homed-reads
-use Rattle.atoms.proofs.in_text.Reads as in-text-reads
-use Rattle.atoms.proofs.no_str.Reads as no-str-reads
-use Rattle.atoms.proofs.nowhere.Reads as nowhere-reads
-use Rattle.atoms.proofs.push.Reads as push-reads
-use Rattle.lex.proofs.lex.Cursor.new.Reads as new-reads
-use Rattle.rooms.proofs.moved.Reads as moved-reads
 
 no-str-requires : tie.Need-no-str-requires
 no-str-requires c κs = search needs

@@ -1,24 +1,19 @@
+-- `atoms::byte_before` meets its contract, by the laws of `Noting`.
+use borrow.Author.Needs.{needs}
 use Rattle.rooms.specs.Standing.{viewed}
 use Rattle.atoms.proofs.Noting.{before-line, before-byte}
-use borrow.Author.Needs.{needs}
 use Rattle.atoms.proofs.byte_before.Statement.{statement}
 use Rattle.atoms.proofs.byte_before.Tie as tie
-use Rattle.atoms.proofs.byte_before.Reads as reads
-use Rattle.atoms.proofs.byte_before.Lts as lts
 
--- src/lib.rt:73:9
 returns : tie.Need-returns
 returns c = let a = c .before .args in before-line (viewed (a .m) (a .line .now)) (a .i) (c .if1 .taken)
 
--- src/lib.rt:75:10
 sub-result : tie.Need-sub-result
 sub-result c = search needs
 
--- src/lib.rt:75:5
 shared-slice-read-result : tie.Need-shared-slice-read-result
 shared-slice-read-result c = search needs
 
--- src/lib.rt:68:1
 returns-2 : tie.Need-returns-2
 returns-2 c = let a = c .before .before .args in before-byte (viewed (a .m) (a .line .now)) (a .i) (c .before .if1 .left)
 

@@ -1,18 +1,12 @@
-use borrow.Author.Needs.{needs}
-use Rattle.atoms.proofs.Putting.{dashes-change, dashes-events}
-use Rattle.dash.proofs.Splits.{dashes-whole}
-use Rattle.dash.specs.Dashes.{dashesOf}
-use Rattle.dash.specs.declared.Dashes.{Dashes}
-use mathlib.Core.Path.{ap}
-use native.Mathlib.Omega.{arith}
+-- `atoms::dashes` meets its contract, by the laws of `Putting`.
 use mathlib.Core.List.{[]}
 use Prim.Native.Nat.{_-_}
+use native.Mathlib.Omega.{arith}
+use borrow.Author.Needs.{needs}
+use Rattle.dash.proofs.Splits.{dashes-whole}
+use Rattle.atoms.proofs.Putting.{dashes-change, dashes-events}
 use Rattle.atoms.proofs.dashes.Statement.{statement}
 use Rattle.atoms.proofs.dashes.Tie as tie
-use Rattle.atoms.proofs.dashes.Reads as reads
-use Rattle.atoms.proofs.dashes.Lts as lts
-use Rattle.atoms.proofs.row.Reads as row-reads
-use Rattle.dash.proofs.split_hyphens.Reads as split-hyphens-reads
 
 sub-split-hyphens : tie.Need-sub-split-hyphens
 sub-split-hyphens c =

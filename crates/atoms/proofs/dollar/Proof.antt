@@ -1,23 +1,17 @@
+-- `atoms::dollar` meets its contract.
 use borrow.Author.Needs.{needs}
 use Rattle.atoms.proofs.dollar.Statement.{statement}
 use Rattle.atoms.proofs.dollar.Tie as tie
-use Rattle.atoms.proofs.dollar.Reads as reads
-use Rattle.atoms.proofs.dollar.Lts as lts
-use Rattle.atoms.proofs.byte_before.Reads as byte-before-reads
 
--- src/lib.rt:84:6
 byte-before-requires : tie.Need-byte-before-requires
 byte-before-requires c κs = search needs
 
--- src/lib.rt:84:63
 sub-byte-before : tie.Need-sub-byte-before
 sub-byte-before c = search needs
 
--- src/lib.rt:84:42
 byte-before-requires-2 : tie.Need-byte-before-requires-2
 byte-before-requires-2 c κs = search needs
 
--- src/lib.rt:79:1
 returns : tie.Need-returns
 returns c = rw (c .before .byte-before .ensures, c .byte-before2 .ensures)
 

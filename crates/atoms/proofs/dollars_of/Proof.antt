@@ -1,15 +1,13 @@
-use borrow.Author.Tests.{not-true, not-false}
+-- `atoms::dollars_of` meets its contract, by the laws of `Noting`.
 use mathlib.Core.Bool.{true, false}
-use Rattle.atoms.proofs.Noting.{dollars-none, dollars-no, dollars-one, dollars-two}
-use Rattle.rooms.specs.Standing.{viewed}
-use native.Mathlib.Omega.{arith}
 use mathlib.Core.Path.{sym, _∙_}
+use native.Mathlib.Omega.{arith}
+use borrow.Author.Tests.{not-true, not-false}
 use borrow.Author.Needs.{needs}
+use Rattle.rooms.specs.Standing.{viewed}
+use Rattle.atoms.proofs.Noting.{dollars-none, dollars-no, dollars-one, dollars-two}
 use Rattle.atoms.proofs.dollars_of.Statement.{statement}
 use Rattle.atoms.proofs.dollars_of.Tie as tie
-use Rattle.atoms.proofs.dollars_of.Reads as reads
-use Rattle.atoms.proofs.dollars_of.Lts as lts
-use Rattle.atoms.proofs.dollar.Reads as dollar-reads
 
 returns : tie.Need-returns
 returns c =

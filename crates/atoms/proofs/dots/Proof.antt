@@ -1,19 +1,13 @@
-use Rattle.atoms.proofs.Putting.{periods-few, dots-change, dots-events}
+-- `atoms::dots` meets its contract, by the laws of `Putting`.
 use mathlib.Core.List.{[]}
 use Prim.Native.Nat.{_-_}
-use Rattle.atoms.proofs.Putting.{dots-change, dots-events}
-use Rattle.dash.proofs.Splits.{dots-whole}
-use Rattle.dash.specs.declared.Dots.{Dots}
 use mathlib.Core.Path.{ap}
 use native.Mathlib.Omega.{arith}
 use borrow.Author.Needs.{needs}
+use Rattle.dash.specs.declared.Dots.{Dots}
+use Rattle.atoms.proofs.Putting.{periods-few, dots-change, dots-events}
 use Rattle.atoms.proofs.dots.Statement.{statement}
 use Rattle.atoms.proofs.dots.Tie as tie
-use Rattle.atoms.proofs.dots.Reads as reads
-use Rattle.atoms.proofs.dots.Lts as lts
-use Rattle.atoms.proofs.put.Reads as put-reads
-use Rattle.atoms.proofs.row.Reads as row-reads
-use Rattle.dash.proofs.split_periods.Reads as split-periods-reads
 
 sub-split-periods : tie.Need-sub-split-periods
 sub-split-periods c = search needs

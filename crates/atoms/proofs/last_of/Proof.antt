@@ -1,13 +1,9 @@
-use Rattle.atoms.proofs.Noting.{noted-str, noted-none}
-use Rattle.rooms.specs.Standing.{viewed}
+-- `atoms::last_of` meets its contract, by the laws of `Noting`.
 use borrow.Author.Needs.{needs}
+use Rattle.rooms.specs.Standing.{viewed}
+use Rattle.atoms.proofs.Noting.{noted-str, noted-none}
 use Rattle.atoms.proofs.last_of.Statement.{statement}
 use Rattle.atoms.proofs.last_of.Tie as tie
-use Rattle.atoms.proofs.last_of.Reads as reads
-use Rattle.atoms.proofs.last_of.Lts as lts
-use Rattle.atoms.proofs.dollars_of.Reads as dollars-of-reads
-use Rattle.atoms.proofs.no_str.Reads as no-str-reads
-use Rattle.atoms.proofs.place_at.Reads as place-at-reads
 
 place-at-requires : tie.Need-place-at-requires
 place-at-requires c κs = search needs

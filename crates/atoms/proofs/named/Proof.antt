@@ -1,17 +1,9 @@
-use Rattle.atoms.proofs.Putting.{named-change}
-use mathlib.Core.Path.{_∙_}
+-- `atoms::named` meets its contract, by the laws of `Putting`.
 use native.Mathlib.Omega.{arith}
 use borrow.Author.Needs.{needs}
+use Rattle.atoms.proofs.Putting.{named-change}
 use Rattle.atoms.proofs.named.Statement.{statement}
 use Rattle.atoms.proofs.named.Tie as tie
-use Rattle.atoms.proofs.named.Reads as reads
-use Rattle.atoms.proofs.named.Lts as lts
-use Rattle.atoms.proofs.homed.Reads as homed-reads
-use Rattle.atoms.proofs.in_text.Reads as in-text-reads
-use Rattle.atoms.proofs.no_str.Reads as no-str-reads
-use Rattle.atoms.proofs.push.Reads as push-reads
-use Rattle.lex.proofs.lex.Cursor.new.Reads as new-reads
-use Rattle.rooms.proofs.moved.Reads as moved-reads
 
 add-end : tie.Need-add-end
 add-end c = search needs

@@ -1,13 +1,8 @@
-use Rattle.atoms.proofs.Putting.{pushed-as, homed-as}
+-- `atoms::put` meets its contract, by the laws of `Putting`.
 use borrow.Author.Needs.{needs}
+use Rattle.atoms.proofs.Putting.{pushed-as, homed-as}
 use Rattle.atoms.proofs.put.Statement.{statement}
 use Rattle.atoms.proofs.put.Tie as tie
-use Rattle.atoms.proofs.put.Reads as reads
-use Rattle.atoms.proofs.put.Lts as lts
-use Rattle.atoms.proofs.homed.Reads as homed-reads
-use Rattle.atoms.proofs.last_of.Reads as last-of-reads
-use Rattle.atoms.proofs.nowhere.Reads as nowhere-reads
-use Rattle.atoms.proofs.push.Reads as push-reads
 
 last-of-requires : tie.Need-last-of-requires
 last-of-requires c κs = search needs

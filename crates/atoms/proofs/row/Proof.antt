@@ -1,18 +1,12 @@
-use borrow.Author.Needs.{needs}
-use Rattle.atoms.proofs.Putting.{Left, left-first, left-turn, left-end, mul-one-up, homed-as}
-use Rattle.reading.specs.Machine.{Turn}
+-- `atoms::row` meets its contract, by the laws of `Putting`.
 use mathlib.Core.List.{[]}
-use Prim.Native.Nat.{ℕ, _-_}
+use mathlib.Core.Path.{_≡_, refl, ap, _∙_}
 use native.Mathlib.Omega.{arith}
-use mathlib.Core.Path.{_≡_, refl, ap, sym, _∙_, subst}
+use borrow.Author.Needs.{needs}
+use Rattle.reading.specs.Machine.{Turn}
+use Rattle.atoms.proofs.Putting.{Left, left-first, left-turn, left-end, mul-one-up, homed-as}
 use Rattle.atoms.proofs.row.Statement.{statement}
 use Rattle.atoms.proofs.row.Tie as tie
-use Rattle.atoms.proofs.row.Reads as reads
-use Rattle.atoms.proofs.row.Lts as lts
-use Rattle.atoms.proofs.homed.Reads as homed-reads
-use Rattle.atoms.proofs.no_str.Reads as no-str-reads
-use Rattle.atoms.proofs.nowhere.Reads as nowhere-reads
-use Rattle.atoms.proofs.push.Reads as push-reads
 
 abbrev Inv-loop : tie.InvT-loop
 Inv-loop m kind w n i queue₀ none out₀ at₀ left₀ queue out at left = (Left (m .base) kind w n i out₀ queue₀ out queue at left) × (out .last ≡ none)

@@ -1,11 +1,9 @@
-use Rattle.containers.proofs.Trying.{after-end, after-byte}
-use Rattle.rooms.specs.Standing.{viewed}
+-- `containers::blank_after` meets its contract, by the laws of `Trying`.
 use borrow.Author.Needs.{needs}
+use Rattle.rooms.specs.Standing.{viewed}
+use Rattle.containers.proofs.Trying.{after-end, after-byte}
 use Rattle.containers.proofs.blank_after.Statement.{statement}
 use Rattle.containers.proofs.blank_after.Tie as tie
-use Rattle.containers.proofs.blank_after.Reads as reads
-use Rattle.containers.proofs.blank_after.Lts as lts
-use Rattle.classes.proofs.is_blank.Reads as is-blank-reads
 
 returns : tie.Need-returns
 returns c m from b =

@@ -1,17 +1,11 @@
-use Rattle.containers.proofs.Sought.{named-pair, named-span, named-link, link-small, pair-step, span-step, link-as}
-use Rattle.reading.specs.Tokens.{closing-of}
-use native.Mathlib.Omega.{arith}
+-- `containers::close_as` meets its contract, by the laws of `Sought`.
 use mathlib.Core.Path.{sym, _∙_}
+use native.Mathlib.Omega.{arith}
 use borrow.Author.Needs.{needs}
+use Rattle.reading.specs.Tokens.{closing-of}
+use Rattle.containers.proofs.Sought.{named-pair, named-span, named-link, link-small, pair-step, span-step, link-as}
 use Rattle.containers.proofs.close_as.Statement.{statement}
 use Rattle.containers.proofs.close_as.Tie as tie
-use Rattle.containers.proofs.close_as.Reads as reads
-use Rattle.containers.proofs.close_as.Lts as lts
-use Rattle.containers.proofs.closes_pair.Reads as closes-pair-reads
-use Rattle.containers.proofs.closes_span.Reads as closes-span-reads
-use Rattle.containers.proofs.peeked.Reads as peeked-reads
-use Rattle.links.proofs.closes_link.Reads as closes-link-reads
-use Rattle.tables.proofs.closing_of.Reads as closing-of-reads
 
 closing-of-requires : tie.Need-closing-of-requires
 closing-of-requires c κs = search needs

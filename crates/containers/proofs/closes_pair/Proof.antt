@@ -1,16 +1,10 @@
-use Rattle.containers.proofs.Closing.{pair-change}
-use Rattle.atoms.proofs.Putting.{homed-as}
+-- `containers::closes_pair` meets its contract, by the laws of `Closing`.
 use native.Mathlib.Omega.{arith}
 use borrow.Author.Needs.{needs}
+use Rattle.atoms.proofs.Putting.{homed-as}
+use Rattle.containers.proofs.Closing.{pair-change}
 use Rattle.containers.proofs.closes_pair.Statement.{statement}
 use Rattle.containers.proofs.closes_pair.Tie as tie
-use Rattle.containers.proofs.closes_pair.Reads as reads
-use Rattle.containers.proofs.closes_pair.Lts as lts
-use Rattle.atoms.proofs.homed.Reads as homed-reads
-use Rattle.atoms.proofs.no_str.Reads as no-str-reads
-use Rattle.atoms.proofs.nowhere.Reads as nowhere-reads
-use Rattle.atoms.proofs.push.Reads as push-reads
-use Rattle.rooms.proofs.set_kind.Reads as set-kind-reads
 
 nowhere-requires : tie.Need-nowhere-requires
 nowhere-requires c κs = search needs

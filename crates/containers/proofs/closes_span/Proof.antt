@@ -1,27 +1,17 @@
-use Rattle.reading.specs.Containers.{takes as takes-of}
-use Rattle.containers.proofs.Closing.{span-events, span-none, span-alone, span-along, span-within}
+-- `containers::closes_span` meets its contract, by the laws of `Closing`.
+use mathlib.Core.Path.{ap, _∙_}
+use native.Mathlib.Omega.{arith}
+use borrow.Author.Needs.{needs}
+use Rattle.reading.specs.Containers.{takes as takes-of, takes}
 use Rattle.rooms.proofs.Changing.{changed-openers}
 use Rattle.rooms.proofs.Rows.{pile-length}
 use Rattle.rooms.specs.Records.{openerAt}
 use Rattle.tables.specs.Tables.{taken-as}
-use Rattle.reading.specs.Containers.{takes}
 use Rattle.reading.specs.declared.Role.{Role}
 use Rattle.rooms.specs.declared.Parser.{Parser}
-use native.Mathlib.Omega.{arith}
-use mathlib.Core.List.{[]}
-use mathlib.Core.Path.{_≡_, ap, sym, _∙_}
-use borrow.Author.Needs.{needs}
+use Rattle.containers.proofs.Closing.{span-events, span-none, span-alone, span-along, span-within}
 use Rattle.containers.proofs.closes_span.Statement.{statement}
 use Rattle.containers.proofs.closes_span.Tie as tie
-use Rattle.containers.proofs.closes_span.Reads as reads
-use Rattle.containers.proofs.closes_span.Lts as lts
-use Rattle.atoms.proofs.put.Reads as put-reads
-use Rattle.containers.proofs.takes_along.Reads as takes-along-reads
-use Rattle.lex.proofs.lex.Cursor.peek.Reads as peek-reads
-use Rattle.rooms.proofs.moved.Reads as moved-reads
-use Rattle.tables.proofs.link_sort.Reads as link-sort-reads
-use Rattle.tables.proofs.role_of.Reads as role-of-reads
-use Rattle.tables.proofs.takes.Reads as takes-reads
 
 peek-requires : tie.Need-peek-requires
 peek-requires c κs = search needs

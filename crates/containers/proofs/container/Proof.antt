@@ -1,14 +1,9 @@
-use Rattle.containers.proofs.Sought.{none-step, found-within, found-names, found-ready, closed-step}
+-- `containers::container` meets its contract, by the laws of `Sought`.
 use native.Mathlib.Omega.{arith}
 use borrow.Author.Needs.{needs}
+use Rattle.containers.proofs.Sought.{none-step, found-within, found-names, found-ready, closed-step}
 use Rattle.containers.proofs.container.Statement.{statement}
 use Rattle.containers.proofs.container.Tie as tie
-use Rattle.containers.proofs.container.Reads as reads
-use Rattle.containers.proofs.container.Lts as lts
-use Rattle.containers.proofs.close_as.Reads as close-as-reads
-use Rattle.containers.proofs.opens_or.Reads as opens-or-reads
-use Rattle.containers.proofs.tried.Reads as tried-reads
-use Rattle.rooms.proofs.opener_at.Reads as opener-at-reads
 
 tried-requires : tie.Need-tried-requires
 tried-requires c κs =

@@ -1,18 +1,13 @@
-use Rattle.containers.proofs.Trying.{close-told}
+-- `containers::may_close` meets its contract, by the laws of `Trying`.
+use mathlib.Core.Path.{_∙_, ap}
+use borrow.Author.Needs.{needs}
 use Rattle.rooms.proofs.Rows.{rows-length}
 use Rattle.rooms.specs.Standing.{stands, viewed, here}
 use Rattle.rooms.specs.Records.{eventAt}
 use Rattle.classes.specs.Classes.{blank}
-use mathlib.Core.Path.{_∙_, ap}
-use borrow.Author.Needs.{needs}
+use Rattle.containers.proofs.Trying.{close-told}
 use Rattle.containers.proofs.may_close.Statement.{statement}
 use Rattle.containers.proofs.may_close.Tie as tie
-use Rattle.containers.proofs.may_close.Reads as reads
-use Rattle.containers.proofs.may_close.Lts as lts
-use Rattle.atoms.proofs.byte_before.Reads as byte-before-reads
-use Rattle.classes.proofs.is_blank.Reads as is-blank-reads
-use Rattle.tables.proofs.may_be_empty.Reads as may-be-empty-reads
-use Rattle.tables.proofs.two_way.Reads as two-way-reads
 
 byte-before-requires : tie.Need-byte-before-requires
 byte-before-requires c κs = search needs

@@ -1,17 +1,11 @@
-use Rattle.containers.proofs.Trying.{open-told}
-use Rattle.rooms.specs.Standing.{stands, viewed, here}
-use Rattle.classes.specs.Classes.{blank}
+-- `containers::may_open` meets its contract, by the laws of `Trying`.
 use mathlib.Core.Path.{_∙_, ap}
 use borrow.Author.Needs.{needs}
+use Rattle.rooms.specs.Standing.{stands, viewed, here}
+use Rattle.classes.specs.Classes.{blank}
+use Rattle.containers.proofs.Trying.{open-told}
 use Rattle.containers.proofs.may_open.Statement.{statement}
 use Rattle.containers.proofs.may_open.Tie as tie
-use Rattle.containers.proofs.may_open.Reads as reads
-use Rattle.containers.proofs.may_open.Lts as lts
-use Rattle.atoms.proofs.byte_before.Reads as byte-before-reads
-use Rattle.classes.proofs.is_blank.Reads as is-blank-reads
-use Rattle.containers.proofs.blank_after.Reads as blank-after-reads
-use Rattle.tables.proofs.is_single.Reads as is-single-reads
-use Rattle.tables.proofs.two_way.Reads as two-way-reads
 
 byte-before-requires : tie.Need-byte-before-requires
 byte-before-requires c κs = search needs

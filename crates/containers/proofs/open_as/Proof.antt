@@ -1,12 +1,8 @@
-use Rattle.containers.proofs.Trying.{open-change}
+-- `containers::open_as` meets its contract, by the laws of `Trying`.
 use borrow.Author.Needs.{needs}
+use Rattle.containers.proofs.Trying.{open-change}
 use Rattle.containers.proofs.open_as.Statement.{statement}
 use Rattle.containers.proofs.open_as.Tie as tie
-use Rattle.containers.proofs.open_as.Reads as reads
-use Rattle.containers.proofs.open_as.Lts as lts
-use Rattle.atoms.proofs.put.Reads as put-reads
-use Rattle.rooms.proofs.push_opener.Reads as push-opener-reads
-use Rattle.tables.proofs.unclosed.Reads as unclosed-reads
 
 push-opener-requires : tie.Need-push-opener-requires
 push-opener-requires c κs = search needs

@@ -1,16 +1,10 @@
-use Rattle.containers.proofs.Trying.{alone-change, opening-change, barred-change}
-use Rattle.rooms.specs.Standing.{viewed, here}
-use Prim.Native.Nat.{ℕ}
-use mathlib.Core.List.{List}
+-- `containers::opens_or` meets its contract, by the laws of `Trying`.
 use mathlib.Core.Path.{sym, _∙_}
 use borrow.Author.Needs.{needs}
+use Rattle.rooms.specs.Standing.{viewed, here}
+use Rattle.containers.proofs.Trying.{alone-change, opening-change, barred-change}
 use Rattle.containers.proofs.opens_or.Statement.{statement}
 use Rattle.containers.proofs.opens_or.Tie as tie
-use Rattle.containers.proofs.opens_or.Reads as reads
-use Rattle.containers.proofs.opens_or.Lts as lts
-use Rattle.atoms.proofs.put.Reads as put-reads
-use Rattle.containers.proofs.may_open.Reads as may-open-reads
-use Rattle.containers.proofs.open_as.Reads as open-as-reads
 
 enum-known-opens : tie.Need-enum-known-opens
 enum-known-opens c = search needs

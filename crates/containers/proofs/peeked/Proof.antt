@@ -1,13 +1,10 @@
-use Rattle.rooms.specs.Standing.{moved as movedTo}
-use Rattle.lex.specs.declared.lex.Lexed.{Lexed}
+-- `containers::peeked` meets its contract.
 use mathlib.Core.Path.{_∙_, ap}
 use borrow.Author.Needs.{needs}
+use Rattle.rooms.specs.Standing.{moved as movedTo}
+use Rattle.lex.specs.declared.lex.Lexed.{Lexed}
 use Rattle.containers.proofs.peeked.Statement.{statement}
 use Rattle.containers.proofs.peeked.Tie as tie
-use Rattle.containers.proofs.peeked.Reads as reads
-use Rattle.containers.proofs.peeked.Lts as lts
-use Rattle.lex.proofs.lex.Cursor.peek.Reads as peek-reads
-use Rattle.rooms.proofs.moved.Reads as moved-reads
 
 peek-requires : tie.Need-peek-requires
 peek-requires c κs = search needs

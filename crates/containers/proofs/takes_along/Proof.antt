@@ -1,17 +1,12 @@
-use Rattle.containers.proofs.Trying.{along-change}
-use Rattle.rooms.specs.declared.Parser.{Parser}
-use Rattle.lex.specs.declared.lex.Lexed.{Lexed}
-use mathlib.Core.Path.{sym, _∙_, ap}
+-- `containers::takes_along` meets its contract, by the laws of `Trying`.
+use mathlib.Core.Path.{sym, ap}
 use native.Mathlib.Omega.{arith}
 use borrow.Author.Needs.{needs}
+use Rattle.rooms.specs.declared.Parser.{Parser}
+use Rattle.lex.specs.declared.lex.Lexed.{Lexed}
+use Rattle.containers.proofs.Trying.{along-change}
 use Rattle.containers.proofs.takes_along.Statement.{statement}
 use Rattle.containers.proofs.takes_along.Tie as tie
-use Rattle.containers.proofs.takes_along.Reads as reads
-use Rattle.containers.proofs.takes_along.Lts as lts
-use Rattle.atoms.proofs.put.Reads as put-reads
-use Rattle.lex.proofs.lex.Cursor.next.Reads as next-reads
-use Rattle.rooms.proofs.moved.Reads as moved-reads
-use Rattle.rooms.proofs.push_opener.Reads as push-opener-reads
 
 push-opener-requires : tie.Need-push-opener-requires
 push-opener-requires c κs = search needs

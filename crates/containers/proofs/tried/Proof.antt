@@ -1,16 +1,12 @@
-use Rattle.containers.proofs.Sought.{sought-none, sought-within, sought-names, sought-closes, sought-not}
-use Rattle.rooms.specs.Standing.{stands, viewed, here}
-use native.Mathlib.Omega.{arith}
+-- `containers::tried` meets its contract, by the laws of `Sought`.
 use mathlib.Core.List.{[]}
 use mathlib.Core.Path.{sym, _∙_}
+use native.Mathlib.Omega.{arith}
 use borrow.Author.Needs.{needs}
+use Rattle.rooms.specs.Standing.{stands, viewed, here}
+use Rattle.containers.proofs.Sought.{sought-none, sought-within, sought-names, sought-closes, sought-not}
 use Rattle.containers.proofs.tried.Statement.{statement}
 use Rattle.containers.proofs.tried.Tie as tie
-use Rattle.containers.proofs.tried.Reads as reads
-use Rattle.containers.proofs.tried.Lts as lts
-use Rattle.containers.proofs.may_close.Reads as may-close-reads
-use Rattle.rooms.proofs.opener_at.Reads as opener-at-reads
-use Rattle.rooms.proofs.seek.Reads as seek-reads
 
 seek-requires : tie.Need-seek-requires
 seek-requires c κs = search needs

@@ -1,6 +1,6 @@
 -- `drain::drain` meets its contract: `Head` of `proofs.Turns` holds at the loop's head. The measure is what is left of the queue.
-use borrow.Author.Needs.{needs}
 use Prim.Native.Nat.{_-_}
+use borrow.Author.Needs.{needs}
 use Rattle.reading.specs.Draining as draining
 use Rattle.rooms.specs.Records.{events}
 use Rattle.drain.proofs.Turns.{Head, head-first, head-next, head-full, head-last, told}

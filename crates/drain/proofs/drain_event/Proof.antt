@@ -1,6 +1,6 @@
 -- `drain::drain_event` meets its contract: one law for each case of the definition.
-use borrow.Author.Needs.{needs}
 use mathlib.Core.Path.{_∙_}
+use borrow.Author.Needs.{needs}
 use Rattle.reading.specs.Draining.{drained}
 use Rattle.drain.specs.declared.Drained.the-variants.{All}
 use Rattle.drain.specs.Pouring.{out, rest}

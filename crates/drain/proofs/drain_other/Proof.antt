@@ -1,7 +1,7 @@
 -- `drain::drain_other` meets its contract: what is held, then the event; the room may be full at either.
-use borrow.Author.Needs.{needs}
 use mathlib.Core.Path.{_∙_}
 use mathlib.Core.List.{_∷_}
+use borrow.Author.Needs.{needs}
 use Rattle.reading.specs.Draining.{drained}
 use Rattle.drain.specs.Pouring.{rest}
 use Rattle.drain.proofs.Turns.{flush-full, flush-on, put-full, put-on}

@@ -1,6 +1,6 @@
 -- `drain::flush` meets its contract: an empty Str puts nothing out; any other is one event.
-use borrow.Author.Needs.{needs}
 use mathlib.Core.Path.{ap, _∙_}
+use borrow.Author.Needs.{needs}
 use Rattle.reading.specs.declared.Event.{Event}
 use Rattle.drain.specs.declared.Drained.the-variants.{All}
 use Rattle.drain.specs.Pouring.{out, put}

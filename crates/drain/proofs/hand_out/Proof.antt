@@ -1,7 +1,7 @@
 -- `drain::hand_out` meets its contract: `put-in` and `put-out`.
-use borrow.Author.Needs.{needs}
-use native.Mathlib.Numerals.{add-one}
 use mathlib.Core.Path.{sym, _∙_}
+use native.Mathlib.Numerals.{add-one}
+use borrow.Author.Needs.{needs}
 use Rattle.drain.specs.declared.Drained.the-variants.{All}
 use Rattle.drain.specs.Pouring.{out}
 use Rattle.drain.proofs.Pouring.{put-in, put-out}

@@ -1,7 +1,7 @@
 -- `drain::store` meets its contract: the stores are `sets`.
-use borrow.Author.Needs.{needs}
 use native.Mathlib.Omega.{arith}
 use native.Mathlib.Numerals.{towards-suc}
+use borrow.Author.Needs.{needs}
 use lib.ListN.{length-set}
 use Rattle.reading.specs.Questions.{numbers}
 use Rattle.drain.proofs.store.Statement.{statement}

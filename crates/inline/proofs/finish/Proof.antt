@@ -1,11 +1,8 @@
-use Rattle.inline.proofs.Taking.{end-refused, end-opened}
-use mathlib.Core.Path.{refl}
+-- `inline::finish` meets its contract, by the laws of `Taking`.
 use borrow.Author.Needs.{needs}
+use Rattle.inline.proofs.Taking.{end-refused, end-opened}
 use Rattle.inline.proofs.finish.Statement.{statement}
 use Rattle.inline.proofs.finish.Tie as tie
-use Rattle.inline.proofs.finish.Reads as reads
-use Rattle.inline.proofs.finish.Lts as lts
-use Rattle.verbatim.proofs.ended_at.Reads as ended-at-reads
 
 enum-told : tie.Need-enum-told
 enum-told c = search needs

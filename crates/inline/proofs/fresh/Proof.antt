@@ -1,12 +1,9 @@
-use Rattle.inline.proofs.Taking.{fresh-stands}
+-- `inline::fresh` meets its contract, by the laws of `Taking`.
 use mathlib.Core.Path.{refl}
 use borrow.Author.Needs.{needs}
+use Rattle.inline.proofs.Taking.{fresh-stands}
 use Rattle.inline.proofs.fresh.Statement.{statement}
 use Rattle.inline.proofs.fresh.Tie as tie
-use Rattle.inline.proofs.fresh.Reads as reads
-use Rattle.inline.proofs.fresh.Lts as lts
-use Rattle.atoms.proofs.no_str.Reads as no-str-reads
-use Rattle.lex.proofs.lex.Cursor.new.Reads as new-reads
 
 new-requires : tie.Need-new-requires
 new-requires c κs = search needs

@@ -1,11 +1,8 @@
-use Rattle.inline.proofs.Taking.{margin-first, margin-later}
-use Prim.Native.Nat.{ℕ}
-use mathlib.Core.List.{List}
+-- `inline::margin_of` meets its contract, by the laws of `Taking`.
 use borrow.Author.Needs.{needs}
+use Rattle.inline.proofs.Taking.{margin-first, margin-later}
 use Rattle.inline.proofs.margin_of.Statement.{statement}
 use Rattle.inline.proofs.margin_of.Tie as tie
-use Rattle.inline.proofs.margin_of.Reads as reads
-use Rattle.inline.proofs.margin_of.Lts as lts
 
 returns : tie.Need-returns
 returns c =

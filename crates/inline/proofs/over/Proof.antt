@@ -1,10 +1,8 @@
-use Rattle.inline.proofs.Taking.{over-refused, over-at}
-use mathlib.Core.Path.{sym}
+-- `inline::over` meets its contract, by the laws of `Taking`.
 use borrow.Author.Needs.{needs}
+use Rattle.inline.proofs.Taking.{over-refused, over-at}
 use Rattle.inline.proofs.over.Statement.{statement}
 use Rattle.inline.proofs.over.Tie as tie
-use Rattle.inline.proofs.over.Reads as reads
-use Rattle.inline.proofs.over.Lts as lts
 
 enum-told : tie.Need-enum-told
 enum-told c = search needs

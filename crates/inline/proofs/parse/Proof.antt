@@ -1,16 +1,12 @@
-use borrow.Author.Needs.{needs}
-use Rattle.inline.proofs.Sheets.{Head, head-first, line-ordered, line-within, head-lined, head-next, end-small, end-room, end-closing, head-last}
-use native.Mathlib.Omega.{arith}
-use lib.ListN.{length}
+-- `inline::parse` meets its contract, by the laws of `Sheets`.
 use Prim.Native.Nat.{_-_}
+use native.Mathlib.Omega.{arith}
+use borrow.Author.Needs.{needs}
+use lib.ListN.{length}
+use Rattle.inline.proofs.Sheets.{Head, head-first, line-ordered, line-within, head-lined, head-next, end-small, end-room, end-closing}
+use Rattle.inline.proofs.Sheets.{head-last}
 use Rattle.inline.proofs.parse.Statement.{statement}
 use Rattle.inline.proofs.parse.Tie as tie
-use Rattle.inline.proofs.parse.Reads as reads
-use Rattle.inline.proofs.parse.Lts as lts
-use Rattle.inline.proofs.finish.Reads as finish-reads
-use Rattle.inline.proofs.fresh.Reads as fresh-reads
-use Rattle.inline.proofs.margin_of.Reads as margin-of-reads
-use Rattle.inline.proofs.read_line.Reads as read-line-reads
 
 abbrev Inv-loop : tie.InvT-loop
 Inv-loop text starts ends reading queue₀ openers₀ labels₀ p₀ end₀ i₀ queue openers labels p end i = Head text starts ends reading queue₀ openers₀ labels₀ queue openers labels p end i

@@ -1,16 +1,11 @@
-use Rattle.inline.proofs.Taking.{event-none, event-within, event-ready, event-shelving, event-ended, event-fits, event-opened, event-room, event-outside, event-verbatim}
-use Rattle.reading.specs.Machine.{rulesOf}
+-- `inline::parse_event` meets its contract, by the laws of `Taking`.
 use native.Mathlib.Omega.{arith}
 use borrow.Author.Needs.{needs}
+use Rattle.reading.specs.Machine.{rulesOf}
+use Rattle.inline.proofs.Taking.{event-none, event-within, event-ready, event-shelving, event-ended, event-fits, event-opened, event-room}
+use Rattle.inline.proofs.Taking.{event-outside, event-verbatim}
 use Rattle.inline.proofs.parse_event.Statement.{statement}
 use Rattle.inline.proofs.parse_event.Tie as tie
-use Rattle.inline.proofs.parse_event.Reads as reads
-use Rattle.inline.proofs.parse_event.Lts as lts
-use Rattle.lex.proofs.lex.Cursor.next.Reads as next-reads
-use Rattle.outside.proofs.outside.Reads as outside-reads
-use Rattle.rooms.proofs.moved.Reads as moved-reads
-use Rattle.tables.proofs.role_of.Reads as role-of-reads
-use Rattle.verbatim.proofs.in_verbatim.Reads as in-verbatim-reads
 
 next-requires : tie.Need-next-requires
 next-requires c κs = search needs

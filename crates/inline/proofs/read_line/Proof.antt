@@ -1,16 +1,12 @@
-use borrow.Author.Needs.{needs}
-use Rattle.inline.proofs.Turning.{Turns, turns-first, turns-before, turns-next, turns-over, turns-last}
-use Rattle.rooms.specs.Standing.{stands, viewed}
-use native.Mathlib.Omega.{arith}
-use lib.ListN.{length}
+-- `inline::read_line` meets its contract, by the laws of `Turning`.
 use mathlib.Core.Path.{sym, _∙_}
+use native.Mathlib.Omega.{arith}
+use borrow.Author.Needs.{needs}
+use lib.ListN.{length}
+use Rattle.rooms.specs.Standing.{stands, viewed}
+use Rattle.inline.proofs.Turning.{Turns, turns-first, turns-before, turns-next, turns-over, turns-last}
 use Rattle.inline.proofs.read_line.Statement.{statement}
 use Rattle.inline.proofs.read_line.Tie as tie
-use Rattle.inline.proofs.read_line.Reads as reads
-use Rattle.inline.proofs.read_line.Lts as lts
-use Rattle.inline.proofs.over.Reads as over-reads
-use Rattle.inline.proofs.parse_event.Reads as parse-event-reads
-use Rattle.verbatim.proofs.begun.Reads as begun-reads
 
 abbrev Inv-loop : tie.InvT-loop
 Inv-loop text line m reading queue₀ openers₀ labels₀ n out₀ left₀ queue openers labels out left = Turns text line m reading queue₀ openers₀ labels₀ out₀ queue openers labels out left

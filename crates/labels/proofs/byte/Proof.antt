@@ -1,8 +1,8 @@
 -- `labels::byte` meets its contract: a newline, no room, or the byte behind what stands before it.
 use native.Mathlib.Omega.{arith}
 use borrow.Author.Tests.{not-true, not-false}
-use Rattle.labels.proofs.Joining.{byte-newline, byte-stuck, byte-put}
 use borrow.Author.Needs.{needs}
+use Rattle.labels.proofs.Joining.{byte-newline, byte-stuck, byte-put}
 use Rattle.labels.proofs.byte.Statement.{statement}
 use Rattle.labels.proofs.byte.Tie as tie
 

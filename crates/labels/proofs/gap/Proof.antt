@@ -1,7 +1,7 @@
 -- `labels::gap` meets its contract: a space, or nothing.
 use borrow.Author.Tests.{not-true, not-false}
-use Rattle.labels.proofs.Joining.{gap-inline, gap-none, gap-space}
 use borrow.Author.Needs.{needs}
+use Rattle.labels.proofs.Joining.{gap-inline, gap-none, gap-space}
 use Rattle.labels.proofs.gap.Statement.{statement}
 use Rattle.labels.proofs.gap.Tie as tie
 

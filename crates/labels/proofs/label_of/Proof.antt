@@ -1,8 +1,8 @@
 -- `labels::label_of` meets its contract: one law for each answer.
 use native.Mathlib.Omega.{arith}
 use borrow.Author.Tests.{not-true, not-false}
-use Rattle.labels.proofs.Shelving.{said-here, said-off, said-words, said-lines}
 use borrow.Author.Needs.{needs}
+use Rattle.labels.proofs.Shelving.{said-here, said-off, said-words, said-lines}
 use Rattle.labels.proofs.label_of.Statement.{statement}
 use Rattle.labels.proofs.label_of.Tie as tie
 

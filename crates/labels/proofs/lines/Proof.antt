@@ -1,10 +1,10 @@
 -- `labels::lines` meets its contract. At the loop's head the events from i on are left; the measure is how many these are.
-use borrow.Author.Needs.{needs}
-use native.Mathlib.Omega.{arith}
 use Prim.Native.Nat.{_-_}
 use mathlib.Core.Path.{_≡_, refl, _∙_}
 use mathlib.Core.List.{[]}
 use mathlib.Core.Bool.{true, false}
+use native.Mathlib.Omega.{arith}
+use borrow.Author.Needs.{needs}
 use borrow.Author.Tests.{not-true, not-false}
 use lib.ListN.{drop}
 use Rattle.reading.specs.Labels.{stretches, pieces, separator}

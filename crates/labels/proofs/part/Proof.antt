@@ -1,6 +1,6 @@
 -- `labels::part` meets its contract: an empty part, the rest of the text, or a part within it.
-use Rattle.labels.proofs.Parts.{part-none, part-past, part-rest}
 use borrow.Author.Needs.{needs}
+use Rattle.labels.proofs.Parts.{part-none, part-past, part-rest}
 use Rattle.labels.proofs.part.Statement.{statement}
 use Rattle.labels.proofs.part.Tie as tie
 

@@ -1,7 +1,7 @@
 -- `labels::reached` meets its contract: the spans touch or do not.
 use borrow.Author.Tests.{eq-eqb, ne-eqb}
-use Rattle.labels.specs.Building.{touching}
 use borrow.Author.Needs.{needs}
+use Rattle.labels.specs.Building.{touching}
 use Rattle.labels.proofs.reached.Statement.{statement}
 use Rattle.labels.proofs.reached.Tie as tie
 

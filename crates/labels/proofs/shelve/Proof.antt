@@ -1,7 +1,7 @@
 -- `labels::shelve` meets its contract: all fitted or not.
 use borrow.Author.Tests.{not-true, not-false}
-use Rattle.labels.specs.Building.{shelve}
 use borrow.Author.Needs.{needs}
+use Rattle.labels.specs.Building.{shelve}
 use Rattle.labels.proofs.shelve.Statement.{statement}
 use Rattle.labels.proofs.shelve.Tie as tie
 

@@ -1,6 +1,6 @@
 -- `labels::stretch` meets its contract, by `stretch-joined`.
-use Rattle.labels.proofs.Joining.{touching-used, touching-fits, stretch-joined}
 use borrow.Author.Needs.{needs}
+use Rattle.labels.proofs.Joining.{touching-used, touching-fits, stretch-joined}
 use Rattle.labels.proofs.stretch.Statement.{statement}
 use Rattle.labels.proofs.stretch.Tie as tie
 

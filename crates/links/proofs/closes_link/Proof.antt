@@ -1,15 +1,9 @@
-use Rattle.links.proofs.Linking.{link-step}
+-- `links::closes_link` meets its contract, by the laws of `Linking`.
 use native.Mathlib.Omega.{arith}
 use borrow.Author.Needs.{needs}
+use Rattle.links.proofs.Linking.{link-step}
 use Rattle.links.proofs.closes_link.Statement.{statement}
 use Rattle.links.proofs.closes_link.Tie as tie
-use Rattle.links.proofs.closes_link.Reads as reads
-use Rattle.links.proofs.closes_link.Lts as lts
-use Rattle.atoms.proofs.no_str.Reads as no-str-reads
-use Rattle.atoms.proofs.place_at.Reads as place-at-reads
-use Rattle.labels.proofs.label_of.Reads as label-of-reads
-use Rattle.rooms.proofs.set_kind.Reads as set-kind-reads
-use Rattle.rooms.proofs.set_kind_to.Reads as set-kind-to-reads
 
 place-at-requires : tie.Need-place-at-requires
 place-at-requires c κs = search needs

@@ -1,19 +1,14 @@
-use Rattle.outside.proofs.Ahead.{scan-within, angle-else, angle-some}
+-- `outside::angle` meets its contract, by the laws of `Ahead`.
+use mathlib.Core.Path.{sym, _∙_}
+use native.Mathlib.Omega.{arith}
+use borrow.Author.Needs.{needs}
+use lib.ListN.{drop}
 use Rattle.scan.proofs.Laws.{autolink-some, autolink-long}
 use Rattle.links.specs.Linked.{sheetOf}
 use Rattle.rooms.specs.Standing.{viewed, here}
-use native.Mathlib.Omega.{arith}
-use lib.ListN.{drop}
-use mathlib.Core.Path.{sym, _∙_}
-use borrow.Author.Needs.{needs}
+use Rattle.outside.proofs.Ahead.{scan-within, angle-else, angle-some}
 use Rattle.outside.proofs.angle.Statement.{statement}
 use Rattle.outside.proofs.angle.Tie as tie
-use Rattle.outside.proofs.angle.Reads as reads
-use Rattle.outside.proofs.angle.Lts as lts
-use Rattle.atoms.proofs.autolinked.Reads as autolinked-reads
-use Rattle.containers.proofs.container.Reads as container-reads
-use Rattle.outside.proofs.plain.Reads as plain-reads
-use Rattle.scan.proofs.ahead_autolink.Reads as ahead-autolink-reads
 
 ahead-autolink-requires : tie.Need-ahead-autolink-requires
 ahead-autolink-requires c κs = search needs

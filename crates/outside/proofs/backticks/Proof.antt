@@ -1,17 +1,12 @@
-use Rattle.outside.proofs.Told.{dollars-ended, run-opens, run-long}
-use Rattle.links.specs.Linked.{sheetOf}
-use Rattle.rooms.specs.Standing.{viewed, here}
-use mathlib.Core.Path.{_∙_}
+-- `outside::backticks` meets its contract, by the laws of `Told`.
 use Prim.Native.Nat.{_+_}
 use native.Mathlib.Omega.{arith}
 use borrow.Author.Needs.{needs}
+use Rattle.links.specs.Linked.{sheetOf}
+use Rattle.rooms.specs.Standing.{viewed, here}
+use Rattle.outside.proofs.Told.{dollars-ended, run-opens, run-long}
 use Rattle.outside.proofs.backticks.Statement.{statement}
 use Rattle.outside.proofs.backticks.Tie as tie
-use Rattle.outside.proofs.backticks.Reads as reads
-use Rattle.outside.proofs.backticks.Lts as lts
-use Rattle.containers.proofs.container.Reads as container-reads
-use Rattle.outside.proofs.plain.Reads as plain-reads
-use Rattle.verbatim.proofs.opens_verbatim.Reads as opens-verbatim-reads
 
 sub-if1 : tie.Need-sub-if1
 sub-if1 c = search needs

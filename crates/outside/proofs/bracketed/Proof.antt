@@ -1,27 +1,16 @@
-use Rattle.outside.proofs.Caret.{peek-ready, peek-shelving, caret-none, caret-no, caret-yes, caret-within, caret-ready}
+-- `outside::bracketed` meets its contract, by the laws of `Caret`.
+use mathlib.Core.Path.{subst, sym, ap, _∙_}
+use native.Mathlib.Omega.{arith}
+use borrow.Author.Needs.{needs}
 use Rattle.links.specs.Linked.{sheetOf}
 use Rattle.containers.specs.Ready.{Shelving}
 use Rattle.rooms.specs.Standing.{moved as movedTo}
 use Rattle.rooms.specs.declared.Parser.{Parser}
 use Rattle.reading.specs.Machine.{rulesOf}
-use mathlib.Core.Path.{subst}
 use Rattle.reading.specs.Tokens.{is-caret as caret-role}
-use Rattle.reading.specs.declared.Role.{Role}
-use native.Mathlib.Omega.{arith}
-use mathlib.Core.Path.{sym, ap, _∙_}
-use borrow.Author.Needs.{needs}
+use Rattle.outside.proofs.Caret.{peek-ready, peek-shelving, caret-none, caret-no, caret-yes, caret-within, caret-ready}
 use Rattle.outside.proofs.bracketed.Statement.{statement}
 use Rattle.outside.proofs.bracketed.Tie as tie
-use Rattle.outside.proofs.bracketed.Reads as reads
-use Rattle.outside.proofs.bracketed.Lts as lts
-use Rattle.containers.proofs.container.Reads as container-reads
-use Rattle.lex.proofs.lex.Cursor.next.Reads as next-reads
-use Rattle.lex.proofs.lex.Cursor.peek.Reads as peek-reads
-use Rattle.outside.proofs.bracket.Reads as bracket-reads
-use Rattle.outside.proofs.noted.Reads as noted-reads
-use Rattle.rooms.proofs.moved.Reads as moved-reads
-use Rattle.tables.proofs.is_caret.Reads as is-caret-reads
-use Rattle.tables.proofs.role_of.Reads as role-of-reads
 
 peek-requires : tie.Need-peek-requires
 peek-requires c κs = search needs

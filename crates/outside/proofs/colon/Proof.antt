@@ -1,19 +1,14 @@
-use Rattle.outside.proofs.Ahead.{scan-within, colon-else, colon-some}
+-- `outside::colon` meets its contract, by the laws of `Ahead`.
+use mathlib.Core.Path.{sym, _∙_}
+use native.Mathlib.Omega.{arith}
+use borrow.Author.Needs.{needs}
+use lib.ListN.{drop}
 use Rattle.scan.proofs.Laws.{symbol-some}
 use Rattle.links.specs.Linked.{sheetOf}
 use Rattle.rooms.specs.Standing.{viewed, here}
-use native.Mathlib.Omega.{arith}
-use lib.ListN.{drop}
-use mathlib.Core.Path.{sym, _∙_}
-use borrow.Author.Needs.{needs}
+use Rattle.outside.proofs.Ahead.{scan-within, colon-else, colon-some}
 use Rattle.outside.proofs.colon.Statement.{statement}
 use Rattle.outside.proofs.colon.Tie as tie
-use Rattle.outside.proofs.colon.Reads as reads
-use Rattle.outside.proofs.colon.Lts as lts
-use Rattle.atoms.proofs.named.Reads as named-reads
-use Rattle.containers.proofs.container.Reads as container-reads
-use Rattle.outside.proofs.plain.Reads as plain-reads
-use Rattle.scan.proofs.ahead_symbol.Reads as ahead-symbol-reads
 
 ahead-symbol-requires : tie.Need-ahead-symbol-requires
 ahead-symbol-requires c κs = search needs

@@ -1,14 +1,10 @@
-use Rattle.outside.proofs.Told.{hyphen-one, hyphens-many}
+-- `outside::hyphens` meets its contract, by the laws of `Told`.
+use borrow.Author.Needs.{needs}
 use Rattle.links.specs.Linked.{sheetOf}
 use Rattle.rooms.specs.Standing.{viewed, here}
-use borrow.Author.Needs.{needs}
+use Rattle.outside.proofs.Told.{hyphen-one, hyphens-many}
 use Rattle.outside.proofs.hyphens.Statement.{statement}
 use Rattle.outside.proofs.hyphens.Tie as tie
-use Rattle.outside.proofs.hyphens.Reads as reads
-use Rattle.outside.proofs.hyphens.Lts as lts
-use Rattle.atoms.proofs.dashes.Reads as dashes-reads
-use Rattle.containers.proofs.container.Reads as container-reads
-use Rattle.outside.proofs.plain.Reads as plain-reads
 
 sub-if1 : tie.Need-sub-if1
 sub-if1 c = search needs

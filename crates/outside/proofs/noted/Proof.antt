@@ -1,19 +1,14 @@
-use Rattle.outside.proofs.Ahead.{scan-within, noted-else, noted-some}
+-- `outside::noted` meets its contract, by the laws of `Ahead`.
+use mathlib.Core.Path.{sym, _∙_}
+use native.Mathlib.Omega.{arith}
+use borrow.Author.Needs.{needs}
+use lib.ListN.{drop}
 use Rattle.scan.proofs.Laws.{footnote-some}
 use Rattle.links.specs.Linked.{sheetOf}
 use Rattle.rooms.specs.Standing.{viewed, here}
-use native.Mathlib.Omega.{arith}
-use lib.ListN.{drop}
-use mathlib.Core.Path.{sym, _∙_}
-use borrow.Author.Needs.{needs}
+use Rattle.outside.proofs.Ahead.{scan-within, noted-else, noted-some}
 use Rattle.outside.proofs.noted.Statement.{statement}
 use Rattle.outside.proofs.noted.Tie as tie
-use Rattle.outside.proofs.noted.Reads as reads
-use Rattle.outside.proofs.noted.Lts as lts
-use Rattle.atoms.proofs.named.Reads as named-reads
-use Rattle.containers.proofs.container.Reads as container-reads
-use Rattle.outside.proofs.bracket.Reads as bracket-reads
-use Rattle.scan.proofs.ahead_footnote.Reads as ahead-footnote-reads
 
 ahead-footnote-requires : tie.Need-ahead-footnote-requires
 ahead-footnote-requires c κs = search needs

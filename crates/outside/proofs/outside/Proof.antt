@@ -1,20 +1,10 @@
-use Rattle.outside.proofs.Told.{as-backticks, as-hyphens, as-lt, as-colon, as-bracket, as-paren, as-other, as-periods, as-brace}
+-- `outside::outside` meets its contract, by the laws of `Told`.
+use borrow.Author.Needs.{needs}
 use Rattle.links.specs.Linked.{sheetOf}
 use Rattle.rooms.specs.Standing.{viewed, here}
-use borrow.Author.Needs.{needs}
+use Rattle.outside.proofs.Told.{as-backticks, as-hyphens, as-lt, as-colon, as-bracket, as-paren, as-other, as-periods, as-brace}
 use Rattle.outside.proofs.outside.Statement.{statement}
 use Rattle.outside.proofs.outside.Tie as tie
-use Rattle.outside.proofs.outside.Reads as reads
-use Rattle.outside.proofs.outside.Lts as lts
-use Rattle.atoms.proofs.dots.Reads as dots-reads
-use Rattle.containers.proofs.container.Reads as container-reads
-use Rattle.outside.proofs.angle.Reads as angle-reads
-use Rattle.outside.proofs.backticks.Reads as backticks-reads
-use Rattle.outside.proofs.bracketed.Reads as bracketed-reads
-use Rattle.outside.proofs.colon.Reads as colon-reads
-use Rattle.outside.proofs.hyphens.Reads as hyphens-reads
-use Rattle.outside.proofs.plain.Reads as plain-reads
-use Rattle.outside.proofs.refuse.Reads as refuse-reads
 
 enum-told : tie.Need-enum-told
 enum-told c = search needs

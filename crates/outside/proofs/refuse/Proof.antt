@@ -1,13 +1,7 @@
-use Rattle.rooms.specs.declared.Parser.{Parser}
-use Rattle.reading.specs.declared.Refused.the-variants as refused
-use Rattle.reading.specs.declared.Place.{Place}
-use mathlib.Core.Path.{ap}
+-- `outside::refuse` meets its contract.
 use borrow.Author.Needs.{needs}
 use Rattle.outside.proofs.refuse.Statement.{statement}
 use Rattle.outside.proofs.refuse.Tie as tie
-use Rattle.outside.proofs.refuse.Reads as reads
-use Rattle.outside.proofs.refuse.Lts as lts
-use Rattle.atoms.proofs.place_at.Reads as place-at-reads
 
 place-at-requires : tie.Need-place-at-requires
 place-at-requires c κs = search needs

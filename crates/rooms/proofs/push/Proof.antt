@@ -1,21 +1,16 @@
-use borrow.Author.Needs.{needs}
+-- `rooms::push` meets its contract, by the laws of `Laws`.
 use native.Mathlib.Numerals.{add-one}
+use borrow.Author.Needs.{needs}
 use Rattle.rooms.proofs.Laws.{pushed}
 use Rattle.rooms.proofs.push.Statement.{statement}
 use Rattle.rooms.proofs.push.Tie as tie
-use Rattle.rooms.proofs.push.Reads as reads
-use Rattle.rooms.proofs.push.Lts as lts
-use Rattle.rooms.proofs.store.Reads as store-reads
 
--- src/lib.rt:102:5
 store-requires : tie.Need-store-requires
 store-requires c κs = search needs
 
--- src/lib.rt:98:1
 same-length : tie.Need-same-length
 same-length c = search needs
 
--- src/lib.rt:98:1
 returns : tie.Need-returns
 returns c =
     let e = c .before .before .before .before .before in

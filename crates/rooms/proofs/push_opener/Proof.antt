@@ -1,79 +1,60 @@
-use borrow.Author.Needs.{needs}
+-- `rooms::push_opener` meets its contract, by the laws of `Search`.
 use native.Mathlib.Omega.{arith}
 use native.Mathlib.Numerals.{towards-suc}
+use borrow.Author.Needs.{needs}
 use lib.ListN.{length-set}
 use Rattle.rooms.proofs.Search.{opened}
 use Rattle.rooms.proofs.push_opener.Statement.{statement}
 use Rattle.rooms.proofs.push_opener.Tie as tie
-use Rattle.rooms.proofs.push_opener.Reads as reads
-use Rattle.rooms.proofs.push_opener.Lts as lts
-use Rattle.tables.proofs.number_of.Reads as number-of-reads
 
--- src/lib.rt:210:14
 mul-at : tie.Need-mul-at
 mul-at c = search needs
 
--- src/lib.rt:212:19
 number-of-requires : tie.Need-number-of-requires
 number-of-requires c κs = search needs
 
--- src/lib.rt:212:5
 mul-openers : tie.Need-mul-openers
 mul-openers c = search needs
 
--- src/lib.rt:212:5
 slice-write-openers : tie.Need-slice-write-openers
 slice-write-openers c = search needs
 
--- src/lib.rt:213:23
 cast-openers : tie.Need-cast-openers
 cast-openers c = search needs
 
--- src/lib.rt:213:13
 add-openers : tie.Need-add-openers
 add-openers c = search needs
 
--- src/lib.rt:213:5
 mul-openers-2 : tie.Need-mul-openers-2
 mul-openers-2 c = search needs
 
--- src/lib.rt:213:5
 slice-write-openers-2 : tie.Need-slice-write-openers-2
 slice-write-openers-2 c = simp length-set (omega arith)
 
--- src/lib.rt:214:23
 cast-openers-2 : tie.Need-cast-openers-2
 cast-openers-2 c = search needs
 
--- src/lib.rt:214:13
 add-openers-2 : tie.Need-add-openers-2
 add-openers-2 c = search needs
 
--- src/lib.rt:214:5
 mul-openers-3 : tie.Need-mul-openers-3
 mul-openers-3 c = search needs
 
--- src/lib.rt:214:5
 slice-write-openers-3 : tie.Need-slice-write-openers-3
 slice-write-openers-3 c = simp length-set (omega arith)
 
--- src/lib.rt:215:13
 add-openers-3 : tie.Need-add-openers-3
 add-openers-3 c = search needs
 
--- src/lib.rt:215:5
 mul-openers-4 : tie.Need-mul-openers-4
 mul-openers-4 c = search needs
 
--- src/lib.rt:215:5
 slice-write-openers-4 : tie.Need-slice-write-openers-4
 slice-write-openers-4 c = simp length-set (omega arith)
 
--- src/lib.rt:204:1
 same-length : tie.Need-same-length
 same-length c = search needs
 
--- src/lib.rt:204:1
 returns : tie.Need-returns
 returns c =
     let e = c .before .before .before .before in

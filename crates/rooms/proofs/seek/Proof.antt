@@ -1,17 +1,14 @@
-use borrow.Author.Needs.{needs}
-use native.Mathlib.Omega.{arith}
+-- `rooms::seek` meets its contract, by the laws of `Search`.
 use Prim.Native.Nat.{_≤_}
 use mathlib.Core.Path.{_≡_, sym, ap, _∙_}
+use native.Mathlib.Omega.{arith}
+use borrow.Author.Needs.{needs}
 use Rattle.reading.specs.Tokens.{closed-by}
 use Rattle.reading.specs.Containers.{seek as sought}
 use Rattle.rooms.specs.Records.{opens}
 use Rattle.rooms.proofs.Search.{found-zero, found-nothing, found-here, found-below}
 use Rattle.rooms.proofs.seek.Statement.{statement}
 use Rattle.rooms.proofs.seek.Tie as tie
-use Rattle.rooms.proofs.seek.Reads as reads
-use Rattle.rooms.proofs.seek.Lts as lts
-use Rattle.tables.proofs.closed_by.Reads as closed-by-reads
-use Rattle.tables.proofs.sort_of.Reads as sort-of-reads
 
 abbrev Inv-loop : tie.InvT-loop
 Inv-loop openers n closes i₀ i = (i ≤ n) × (sought closes (opens i openers) ≡ sought closes (opens n openers))
@@ -19,45 +16,35 @@ Inv-loop openers n closes i₀ i = (i ≤ n) × (sought closes (opens i openers)
 abbrev μ-loop : tie.MeasureT-loop
 μ-loop openers n closes i₀ i = i
 
--- src/lib.rt:224:9
 returns : tie.Need-returns Inv-loop μ-loop
 returns c =
     let a = c .before .before .args in
     found-zero (a .openers .now) (a .closes) (a .n) (c .if1 .taken)
 
--- src/lib.rt:227:5
 loop-holds : tie.Need-loop-holds Inv-loop μ-loop
 loop-holds c = search needs
 
--- src/lib.rt:231:9
 sub-i : tie.Need-sub-i Inv-loop μ-loop
 sub-i c = search needs
 
--- src/lib.rt:232:54
 mul-sort-of : tie.Need-mul-sort-of Inv-loop μ-loop
 mul-sort-of c = search needs
 
--- src/lib.rt:232:46
 mul-sort-of-2 : tie.Need-mul-sort-of-2 Inv-loop μ-loop
 mul-sort-of-2 c = search needs
 
--- src/lib.rt:232:46
 shared-slice-read-sort-of : tie.Need-shared-slice-read-sort-of Inv-loop μ-loop
 shared-slice-read-sort-of c = search needs
 
--- src/lib.rt:232:30
 sort-of-requires : tie.Need-sort-of-requires Inv-loop μ-loop
 sort-of-requires c κs = search needs
 
--- src/lib.rt:232:12
 closed-by-requires : tie.Need-closed-by-requires Inv-loop μ-loop
 closed-by-requires c κs = search needs
 
--- src/lib.rt:227:5
 loop-less : tie.Need-loop-less Inv-loop μ-loop
 loop-less c = search needs
 
--- src/lib.rt:227:5
 loop-again : tie.Need-loop-again Inv-loop μ-loop
 loop-again c =
     let a = c .before .before .before .before .before .before .before .before .args in
@@ -67,14 +54,12 @@ loop-again c =
           (λ e. c .if3 .left (c .before .closed-by .ensures ∙ ap closed-by (c .before .before .sort-of .ensures) ∙ e)),
     )
 
--- src/lib.rt:219:1
 returns-2 : tie.Need-returns-2 Inv-loop μ-loop
 returns-2 c =
     let a = c .before .before .before .before .args in
     let l = c .before .loop in
     found-nothing (a .openers .now) (a .closes) (a .n) (l .i) (l .inv .1) (c .if2 .taken)
 
--- src/lib.rt:219:1
 returns-3 : tie.Need-returns-3 Inv-loop μ-loop
 returns-3 c =
     let a = c .before .before .before .before .before .before .before .before .args in

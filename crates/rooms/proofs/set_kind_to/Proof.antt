@@ -1,34 +1,25 @@
-use borrow.Author.Needs.{needs}
+-- `rooms::set_kind_to` meets its contract, by the laws of `Laws`.
 use mathlib.Core.Path.{ap, _∙_}
+use borrow.Author.Needs.{needs}
 use Rattle.reading.specs.declared.Event.{Event}
 use Rattle.reading.specs.Events.{becomes-to}
-use Rattle.rooms.proofs.Laws.{replaced}
 use Rattle.rooms.specs.Records.{homeAs}
+use Rattle.rooms.proofs.Laws.{replaced}
 use Rattle.rooms.proofs.set_kind_to.Statement.{statement}
 use Rattle.rooms.proofs.set_kind_to.Tie as tie
-use Rattle.rooms.proofs.set_kind_to.Reads as reads
-use Rattle.rooms.proofs.set_kind_to.Lts as lts
-use Rattle.rooms.proofs.event_at.Reads as event-at-reads
-use Rattle.rooms.proofs.event_of.Reads as event-of-reads
-use Rattle.rooms.proofs.store.Reads as store-reads
 
--- src/lib.rt:139:9
 event-at-requires : tie.Need-event-at-requires
 event-at-requires c κs = search needs
 
--- src/lib.rt:141:21
 event-of-requires : tie.Need-event-of-requires
 event-of-requires c κs = search needs
 
--- src/lib.rt:141:5
 store-requires : tie.Need-store-requires
 store-requires c κs = search needs
 
--- src/lib.rt:135:1
 same-length : tie.Need-same-length
 same-length c = search needs
 
--- src/lib.rt:135:1
 returns : tie.Need-returns
 returns c n =
     let e = c .before .before .before .before .before .before .before .before .before in

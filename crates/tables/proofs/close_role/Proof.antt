@@ -1,6 +1,6 @@
 -- `tables::close_role` meets its contract: each arm is the definition's at its delimiter.
-use Rattle.reading.specs.Tokens.{role-of}
 use borrow.Author.Needs.{needs}
+use Rattle.reading.specs.Tokens.{role-of}
 use Rattle.tables.proofs.close_role.Statement.{statement}
 use Rattle.tables.proofs.close_role.Tie as tie
 

@@ -1,6 +1,6 @@
 -- `tables::closed_by` meets its contract: each arm computes at its sort.
-use Rattle.reading.specs.Tokens.{closed-by}
 use borrow.Author.Needs.{needs}
+use Rattle.reading.specs.Tokens.{closed-by}
 use Rattle.tables.proofs.closed_by.Statement.{statement}
 use Rattle.tables.proofs.closed_by.Tie as tie
 

@@ -1,6 +1,6 @@
 -- `tables::closing_of` meets its contract: each arm is the definition's at its sort.
-use Rattle.reading.specs.Tokens.{closing-of}
 use borrow.Author.Needs.{needs}
+use Rattle.reading.specs.Tokens.{closing-of}
 use Rattle.tables.proofs.closing_of.Statement.{statement}
 use Rattle.tables.proofs.closing_of.Tie as tie
 

@@ -1,7 +1,7 @@
 -- `tables::is_run` meets its contract: no other role is a run.
+use borrow.Author.Needs.{needs}
 use Rattle.reading.specs.Tokens.{is-run}
 use Rattle.tables.proofs.Roles.{not-run}
-use borrow.Author.Needs.{needs}
 use Rattle.tables.proofs.is_run.Statement.{statement}
 use Rattle.tables.proofs.is_run.Tie as tie
 

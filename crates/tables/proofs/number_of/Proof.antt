@@ -1,6 +1,6 @@
 -- `tables::number_of` meets its contract: each arm computes at its sort.
-use Rattle.tables.specs.Tables.{number}
 use borrow.Author.Needs.{needs}
+use Rattle.tables.specs.Tables.{number}
 use Rattle.tables.proofs.number_of.Statement.{statement}
 use Rattle.tables.proofs.number_of.Tie as tie
 

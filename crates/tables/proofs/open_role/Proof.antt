@@ -1,6 +1,6 @@
 -- `tables::open_role` meets its contract: each arm is the definition's at its delimiter.
-use Rattle.reading.specs.Tokens.{role-of}
 use borrow.Author.Needs.{needs}
+use Rattle.reading.specs.Tokens.{role-of}
 use Rattle.tables.proofs.open_role.Statement.{statement}
 use Rattle.tables.proofs.open_role.Tie as tie
 

@@ -1,7 +1,7 @@
 -- `tables::opens_a` meets its contract: only Other opens, by its marks.
+use borrow.Author.Needs.{needs}
 use Rattle.reading.specs.Tokens.{opens-closed-by, opens-a}
 use Rattle.tables.proofs.Roles.{opens-none}
-use borrow.Author.Needs.{needs}
 use Rattle.tables.proofs.opens_a.Statement.{statement}
 use Rattle.tables.proofs.opens_a.Tie as tie
 

@@ -1,6 +1,6 @@
 -- `tables::role_of` meets its contract: each arm is the definition's at its kind; an arm with a part is that part's callee's.
-use Rattle.reading.specs.Tokens.{role-of}
 use borrow.Author.Needs.{needs}
+use Rattle.reading.specs.Tokens.{role-of}
 use Rattle.tables.proofs.role_of.Statement.{statement}
 use Rattle.tables.proofs.role_of.Tie as tie
 

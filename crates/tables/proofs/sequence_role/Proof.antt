@@ -1,6 +1,6 @@
 -- `tables::sequence_role` meets its contract: each arm computes at its sequence.
-use Rattle.reading.specs.Tokens.{role-of}
 use borrow.Author.Needs.{needs}
+use Rattle.reading.specs.Tokens.{role-of}
 use Rattle.tables.proofs.sequence_role.Statement.{statement}
 use Rattle.tables.proofs.sequence_role.Tie as tie
 

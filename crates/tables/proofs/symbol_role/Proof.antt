@@ -1,6 +1,6 @@
 -- `tables::symbol_role` meets its contract: each arm is the definition's at its symbol.
-use Rattle.reading.specs.Tokens.{closed-by, role-of}
 use borrow.Author.Needs.{needs}
+use Rattle.reading.specs.Tokens.{closed-by, role-of}
 use Rattle.tables.proofs.symbol_role.Statement.{statement}
 use Rattle.tables.proofs.symbol_role.Tie as tie
 

@@ -1,8 +1,8 @@
 -- `tables::takes` meets its contract: no other role is a bracket.
+use borrow.Author.Needs.{needs}
 use Rattle.reading.specs.Containers.{takes}
 use Rattle.tables.specs.Tables.{taken-as}
 use Rattle.tables.proofs.Roles.{takes-none}
-use borrow.Author.Needs.{needs}
 use Rattle.tables.proofs.takes.Statement.{statement}
 use Rattle.tables.proofs.takes.Tie as tie
 

@@ -1,8 +1,8 @@
 -- `tables::two_way` meets its contract: an arm with a mark computes at it; the last has none of them.
 use mathlib.Core.Path.{sym, ap, _∙_}
+use borrow.Author.Needs.{needs}
 use Rattle.classes.specs.Classes.{among}
 use Rattle.tables.proofs.Tables.{marks, one-way}
-use borrow.Author.Needs.{needs}
 use Rattle.tables.proofs.two_way.Statement.{statement}
 use Rattle.tables.proofs.two_way.Tie as tie
 

@@ -1,8 +1,8 @@
 -- `tables::unclosed` meets its contract: the tests are the definition's.
 use mathlib.Core.Path.{sym, _∙_}
 use borrow.Author.Tests.{eq-eqb, ne-eqb}
-use Rattle.reading.specs.Tokens.{unclosed}
 use borrow.Author.Needs.{needs}
+use Rattle.reading.specs.Tokens.{unclosed}
 use Rattle.tables.proofs.unclosed.Statement.{statement}
 use Rattle.tables.proofs.unclosed.Tie as tie
 

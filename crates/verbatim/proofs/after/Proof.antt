@@ -1,8 +1,7 @@
+-- `verbatim::after` meets its contract, by the laws of `Answers`.
 use Rattle.verbatim.proofs.Answers.{after-is}
 use Rattle.verbatim.proofs.after.Statement.{statement}
 use Rattle.verbatim.proofs.after.Tie as tie
-use Rattle.verbatim.proofs.after.Reads as reads
-use Rattle.verbatim.proofs.after.Lts as lts
 
 returns : tie.Need-returns
 returns c =

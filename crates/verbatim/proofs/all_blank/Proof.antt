@@ -1,14 +1,12 @@
-use borrow.Author.Needs.{needs}
-use Rattle.verbatim.proofs.Answers.{Blank, blank-end, blank-stop, blank-more}
-use lib.ListN.{length}
+-- `verbatim::all_blank` meets its contract, by the laws of `Answers`.
 use Prim.Native.Nat.{_-_}
 use mathlib.Core.Path.{refl, sym, _∙_}
+use borrow.Author.Needs.{needs}
 use borrow.Author.Tests.{not-true, not-false}
+use lib.ListN.{length}
+use Rattle.verbatim.proofs.Answers.{Blank, blank-end, blank-stop, blank-more}
 use Rattle.verbatim.proofs.all_blank.Statement.{statement}
 use Rattle.verbatim.proofs.all_blank.Tie as tie
-use Rattle.verbatim.proofs.all_blank.Reads as reads
-use Rattle.verbatim.proofs.all_blank.Lts as lts
-use Rattle.classes.proofs.is_blank.Reads as is-blank-reads
 
 abbrev Inv-loop : tie.InvT-loop
 Inv-loop s i₀ i = Blank s i

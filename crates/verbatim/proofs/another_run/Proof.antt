@@ -1,11 +1,8 @@
-use Rattle.verbatim.proofs.Answers.{another-none, another-some}
+-- `verbatim::another_run` meets its contract, by the laws of `Answers`.
 use borrow.Author.Needs.{needs}
+use Rattle.verbatim.proofs.Answers.{another-none, another-some}
 use Rattle.verbatim.proofs.another_run.Statement.{statement}
 use Rattle.verbatim.proofs.another_run.Tie as tie
-use Rattle.verbatim.proofs.another_run.Reads as reads
-use Rattle.verbatim.proofs.another_run.Lts as lts
-use Rattle.tables.proofs.is_run.Reads as is-run-reads
-use Rattle.tables.proofs.role_of.Reads as role-of-reads
 
 enum-known-next : tie.Need-enum-known-next
 enum-known-next c = search needs

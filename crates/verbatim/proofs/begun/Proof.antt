@@ -1,13 +1,8 @@
-use Rattle.verbatim.proofs.Opening.{begun-out, begun-in}
+-- `verbatim::begun` meets its contract, by the laws of `Opening`.
 use borrow.Author.Needs.{needs}
+use Rattle.verbatim.proofs.Opening.{begun-out, begun-in}
 use Rattle.verbatim.proofs.begun.Statement.{statement}
 use Rattle.verbatim.proofs.begun.Tie as tie
-use Rattle.verbatim.proofs.begun.Reads as reads
-use Rattle.verbatim.proofs.begun.Lts as lts
-use Rattle.lex.proofs.lex.Cursor.new.Reads as new-reads
-use Rattle.rooms.proofs.inside.Reads as inside-reads
-use Rattle.rooms.proofs.moved.Reads as moved-reads
-use Rattle.verbatim.proofs.later.Reads as later-reads
 
 enum-told : tie.Need-enum-told
 enum-told c = search needs

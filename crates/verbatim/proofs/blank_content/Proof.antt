@@ -1,13 +1,8 @@
-use Rattle.verbatim.proofs.Contents.{blank-seen, blank-skipped, blank-put, room-moved}
+-- `verbatim::blank_content` meets its contract, by the laws of `Contents`.
 use borrow.Author.Needs.{needs}
+use Rattle.verbatim.proofs.Contents.{blank-seen, blank-skipped, blank-put, room-moved}
 use Rattle.verbatim.proofs.blank_content.Statement.{statement}
 use Rattle.verbatim.proofs.blank_content.Tie as tie
-use Rattle.verbatim.proofs.blank_content.Reads as reads
-use Rattle.verbatim.proofs.blank_content.Lts as lts
-use Rattle.atoms.proofs.put.Reads as put-reads
-use Rattle.lex.proofs.lex.Cursor.peek.Reads as peek-reads
-use Rattle.rooms.proofs.moved.Reads as moved-reads
-use Rattle.verbatim.proofs.another_run.Reads as another-run-reads
 
 put-requires : tie.Need-put-requires
 put-requires c κs = search needs

@@ -1,14 +1,8 @@
-use Rattle.verbatim.proofs.Closing.{plain-change}
+-- `verbatim::closes_plain` meets its contract, by the laws of `Closing`.
 use borrow.Author.Needs.{needs}
+use Rattle.verbatim.proofs.Closing.{plain-change}
 use Rattle.verbatim.proofs.closes_plain.Statement.{statement}
 use Rattle.verbatim.proofs.closes_plain.Tie as tie
-use Rattle.verbatim.proofs.closes_plain.Reads as reads
-use Rattle.verbatim.proofs.closes_plain.Lts as lts
-use Rattle.atoms.proofs.place_at.Reads as place-at-reads
-use Rattle.rooms.proofs.moved.Reads as moved-reads
-use Rattle.verbatim.proofs.exits.Reads as exits-reads
-use Rattle.verbatim.proofs.flagged.Reads as flagged-reads
-use Rattle.verbatim.proofs.kept.Reads as kept-reads
 
 kept-requires : tie.Need-kept-requires
 kept-requires c κs = search needs

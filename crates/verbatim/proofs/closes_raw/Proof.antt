@@ -1,18 +1,10 @@
-use Rattle.rooms.specs.Records.{homeAs}
-use Rattle.verbatim.proofs.Closing.{opened-raw, raw-change}
+-- `verbatim::closes_raw` meets its contract, by the laws of `Closing`.
 use native.Mathlib.Omega.{arith}
 use borrow.Author.Needs.{needs}
+use Rattle.rooms.specs.Records.{homeAs}
+use Rattle.verbatim.proofs.Closing.{opened-raw, raw-change}
 use Rattle.verbatim.proofs.closes_raw.Statement.{statement}
 use Rattle.verbatim.proofs.closes_raw.Tie as tie
-use Rattle.verbatim.proofs.closes_raw.Reads as reads
-use Rattle.verbatim.proofs.closes_raw.Lts as lts
-use Rattle.atoms.proofs.in_text.Reads as in-text-reads
-use Rattle.atoms.proofs.place_at.Reads as place-at-reads
-use Rattle.lex.proofs.lex.Cursor.new.Reads as new-reads
-use Rattle.rooms.proofs.moved.Reads as moved-reads
-use Rattle.rooms.proofs.set_kind.Reads as set-kind-reads
-use Rattle.verbatim.proofs.exits.Reads as exits-reads
-use Rattle.verbatim.proofs.kept.Reads as kept-reads
 
 add-a : tie.Need-add-a
 add-a c = search needs

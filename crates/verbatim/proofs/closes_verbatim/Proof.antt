@@ -1,16 +1,9 @@
-use Rattle.verbatim.proofs.Closing.{closes-small, closes-change}
-use Rattle.scan.specs.declared.Ahead.the-variants as ahead
+-- `verbatim::closes_verbatim` meets its contract, by the laws of `Closing`.
 use borrow.Author.Needs.{needs}
+use Rattle.scan.specs.declared.Ahead.the-variants as ahead
+use Rattle.verbatim.proofs.Closing.{closes-small, closes-change}
 use Rattle.verbatim.proofs.closes_verbatim.Statement.{statement}
 use Rattle.verbatim.proofs.closes_verbatim.Tie as tie
-use Rattle.verbatim.proofs.closes_verbatim.Reads as reads
-use Rattle.verbatim.proofs.closes_verbatim.Lts as lts
-use Rattle.lex.proofs.lex.Cursor.peek.Reads as peek-reads
-use Rattle.verbatim.proofs.after.Reads as after-reads
-use Rattle.verbatim.proofs.closes_plain.Reads as closes-plain-reads
-use Rattle.verbatim.proofs.closes_raw.Reads as closes-raw-reads
-use Rattle.verbatim.proofs.flagged.Reads as flagged-reads
-use Rattle.verbatim.proofs.format_ahead.Reads as format-ahead-reads
 
 after-requires : tie.Need-after-requires
 after-requires c κs = search needs

@@ -1,11 +1,8 @@
-use Rattle.verbatim.proofs.Contents.{content-change}
+-- `verbatim::content` meets its contract, by the laws of `Contents`.
 use borrow.Author.Needs.{needs}
+use Rattle.verbatim.proofs.Contents.{content-change}
 use Rattle.verbatim.proofs.content.Statement.{statement}
 use Rattle.verbatim.proofs.content.Tie as tie
-use Rattle.verbatim.proofs.content.Reads as reads
-use Rattle.verbatim.proofs.content.Lts as lts
-use Rattle.atoms.proofs.put.Reads as put-reads
-use Rattle.rooms.proofs.inside.Reads as inside-reads
 
 add-seen : tie.Need-add-seen
 add-seen c = search needs

@@ -1,11 +1,9 @@
-use Rattle.verbatim.proofs.Closing.{ended-out, ended-opened, ended-in}
+-- `verbatim::ended_at` meets its contract, by the laws of `Closing`.
 use native.Mathlib.Omega.{arith}
 use borrow.Author.Needs.{needs}
+use Rattle.verbatim.proofs.Closing.{ended-out, ended-opened, ended-in}
 use Rattle.verbatim.proofs.ended_at.Statement.{statement}
 use Rattle.verbatim.proofs.ended_at.Tie as tie
-use Rattle.verbatim.proofs.ended_at.Reads as reads
-use Rattle.verbatim.proofs.ended_at.Lts as lts
-use Rattle.verbatim.proofs.exits.Reads as exits-reads
 
 enum-told : tie.Need-enum-told
 enum-told c = search needs

@@ -1,13 +1,10 @@
-use Rattle.verbatim.proofs.Answers.{exit-else, exit-small, exit-is}
-use Rattle.rooms.specs.Records.{eventAt}
+-- `verbatim::exit_of` meets its contract, by the laws of `Answers`.
 use native.Mathlib.Omega.{arith}
 use borrow.Author.Needs.{needs}
+use Rattle.rooms.specs.Records.{eventAt}
+use Rattle.verbatim.proofs.Answers.{exit-else, exit-small, exit-is}
 use Rattle.verbatim.proofs.exit_of.Statement.{statement}
 use Rattle.verbatim.proofs.exit_of.Tie as tie
-use Rattle.verbatim.proofs.exit_of.Reads as reads
-use Rattle.verbatim.proofs.exit_of.Lts as lts
-use Rattle.rooms.proofs.event_at.Reads as event-at-reads
-use Rattle.verbatim.proofs.kind_of.Reads as kind-of-reads
 
 event-at-requires : tie.Need-event-at-requires
 event-at-requires c κs = search needs

@@ -1,13 +1,8 @@
-use Rattle.verbatim.proofs.Closing.{opened-low, exits-change}
+-- `verbatim::exits` meets its contract, by the laws of `Closing`.
 use borrow.Author.Needs.{needs}
+use Rattle.verbatim.proofs.Closing.{opened-low, exits-change}
 use Rattle.verbatim.proofs.exits.Statement.{statement}
 use Rattle.verbatim.proofs.exits.Tie as tie
-use Rattle.verbatim.proofs.exits.Reads as reads
-use Rattle.verbatim.proofs.exits.Lts as lts
-use Rattle.atoms.proofs.no_str.Reads as no-str-reads
-use Rattle.atoms.proofs.push.Reads as push-reads
-use Rattle.rooms.proofs.inside.Reads as inside-reads
-use Rattle.verbatim.proofs.exit_of.Reads as exit-of-reads
 
 exit-of-requires : tie.Need-exit-of-requires
 exit-of-requires c κs = search needs

@@ -1,13 +1,9 @@
-use Rattle.verbatim.proofs.Answers.{format-none, format-some, format-other}
-use Rattle.rooms.specs.Standing.{viewed}
+-- `verbatim::format_ahead` meets its contract, by the laws of `Answers`.
 use borrow.Author.Needs.{needs}
+use Rattle.rooms.specs.Standing.{viewed}
+use Rattle.verbatim.proofs.Answers.{format-none, format-some, format-other}
 use Rattle.verbatim.proofs.format_ahead.Statement.{statement}
 use Rattle.verbatim.proofs.format_ahead.Tie as tie
-use Rattle.verbatim.proofs.format_ahead.Reads as reads
-use Rattle.verbatim.proofs.format_ahead.Lts as lts
-use Rattle.scan.proofs.ahead_raw_format.Reads as ahead-raw-format-reads
-use Rattle.tables.proofs.is_format.Reads as is-format-reads
-use Rattle.tables.proofs.role_of.Reads as role-of-reads
 
 enum-known-next : tie.Need-enum-known-next
 enum-known-next c = search needs

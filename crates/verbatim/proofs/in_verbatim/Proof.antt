@@ -1,15 +1,8 @@
-use Rattle.verbatim.proofs.Contents.{run-is, in-closes, in-blank, in-content}
+-- `verbatim::in_verbatim` meets its contract, by the laws of `Contents`.
 use borrow.Author.Needs.{needs}
+use Rattle.verbatim.proofs.Contents.{run-is, in-closes, in-blank, in-content}
 use Rattle.verbatim.proofs.in_verbatim.Statement.{statement}
 use Rattle.verbatim.proofs.in_verbatim.Tie as tie
-use Rattle.verbatim.proofs.in_verbatim.Reads as reads
-use Rattle.verbatim.proofs.in_verbatim.Lts as lts
-use Rattle.tables.proofs.is_run.Reads as is-run-reads
-use Rattle.tables.proofs.role_of.Reads as role-of-reads
-use Rattle.verbatim.proofs.all_blank.Reads as all-blank-reads
-use Rattle.verbatim.proofs.blank_content.Reads as blank-content-reads
-use Rattle.verbatim.proofs.closes_verbatim.Reads as closes-verbatim-reads
-use Rattle.verbatim.proofs.content.Reads as content-reads
 
 role-of-requires : tie.Need-role-of-requires
 role-of-requires c κs = search needs

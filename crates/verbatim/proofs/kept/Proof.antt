@@ -1,11 +1,10 @@
-use Rattle.verbatim.proofs.Answers.{kept-cut, kept-all}
+-- `verbatim::kept` meets its contract, by the laws of `Answers`.
+use native.Mathlib.Omega.{arith}
 use Rattle.rooms.proofs.Rows.{rows-length}
 use Rattle.rooms.specs.Records.{eventAt, events}
-use native.Mathlib.Omega.{arith}
+use Rattle.verbatim.proofs.Answers.{kept-cut, kept-all}
 use Rattle.verbatim.proofs.kept.Statement.{statement}
 use Rattle.verbatim.proofs.kept.Tie as tie
-use Rattle.verbatim.proofs.kept.Reads as reads
-use Rattle.verbatim.proofs.kept.Lts as lts
 
 returns : tie.Need-returns
 returns c =

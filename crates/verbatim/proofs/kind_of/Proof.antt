@@ -1,9 +1,8 @@
-use Rattle.verbatim.proofs.Answers.{kind-atom, kind-enter, kind-exit}
+-- `verbatim::kind_of` meets its contract, by the laws of `Answers`.
 use native.Mathlib.Omega.{arith}
+use Rattle.verbatim.proofs.Answers.{kind-atom, kind-enter, kind-exit}
 use Rattle.verbatim.proofs.kind_of.Statement.{statement}
 use Rattle.verbatim.proofs.kind_of.Tie as tie
-use Rattle.verbatim.proofs.kind_of.Reads as reads
-use Rattle.verbatim.proofs.kind_of.Lts as lts
 
 returns : tie.Need-returns
 returns c =

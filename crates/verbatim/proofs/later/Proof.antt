@@ -1,8 +1,7 @@
+-- `verbatim::later` meets its contract, by the laws of `Answers`.
 use Rattle.verbatim.proofs.Answers.{later-is}
 use Rattle.verbatim.proofs.later.Statement.{statement}
 use Rattle.verbatim.proofs.later.Tie as tie
-use Rattle.verbatim.proofs.later.Reads as reads
-use Rattle.verbatim.proofs.later.Lts as lts
 
 returns : tie.Need-returns
 returns c =

@@ -1,11 +1,9 @@
-use Rattle.verbatim.proofs.Opening.{left-none, left-some, dollars-some, dollars-within}
+-- `verbatim::leave` meets its contract, by the laws of `Opening`.
 use native.Mathlib.Omega.{arith}
 use borrow.Author.Needs.{needs}
+use Rattle.verbatim.proofs.Opening.{left-none, left-some, dollars-some, dollars-within}
 use Rattle.verbatim.proofs.leave.Statement.{statement}
 use Rattle.verbatim.proofs.leave.Tie as tie
-use Rattle.verbatim.proofs.leave.Reads as reads
-use Rattle.verbatim.proofs.leave.Lts as lts
-use Rattle.rooms.proofs.shorten.Reads as shorten-reads
 
 returns : tie.Need-returns
 returns c =

@@ -1,8 +1,7 @@
+-- `verbatim::opened_as` meets its contract, by the laws of `Answers`.
 use Rattle.verbatim.proofs.Answers.{opened-plain, opened-inline, opened-display}
 use Rattle.verbatim.proofs.opened_as.Statement.{statement}
 use Rattle.verbatim.proofs.opened_as.Tie as tie
-use Rattle.verbatim.proofs.opened_as.Reads as reads
-use Rattle.verbatim.proofs.opened_as.Lts as lts
 
 returns : tie.Need-returns
 returns c =

@@ -1,23 +1,11 @@
-use Rattle.verbatim.proofs.Opening.{takes-from, takes-within, opened-small, opens-change}
-use Rattle.rooms.specs.Records.{homeAs}
-use native.Mathlib.Omega.{arith}
+-- `verbatim::opens_verbatim` meets its contract, by the laws of `Opening`.
 use Prim.Native.Nat.{_+_}
+use native.Mathlib.Omega.{arith}
 use borrow.Author.Needs.{needs}
+use Rattle.rooms.specs.Records.{homeAs}
+use Rattle.verbatim.proofs.Opening.{takes-from, takes-within, opened-small, opens-change}
 use Rattle.verbatim.proofs.opens_verbatim.Statement.{statement}
 use Rattle.verbatim.proofs.opens_verbatim.Tie as tie
-use Rattle.verbatim.proofs.opens_verbatim.Reads as reads
-use Rattle.verbatim.proofs.opens_verbatim.Lts as lts
-use Rattle.atoms.proofs.no_str.Reads as no-str-reads
-use Rattle.atoms.proofs.nowhere.Reads as nowhere-reads
-use Rattle.atoms.proofs.place_at.Reads as place-at-reads
-use Rattle.atoms.proofs.push.Reads as push-reads
-use Rattle.rooms.proofs.event_of.Reads as event-of-reads
-use Rattle.rooms.proofs.inside.Reads as inside-reads
-use Rattle.rooms.proofs.moved.Reads as moved-reads
-use Rattle.verbatim.proofs.flagged.Reads as flagged-reads
-use Rattle.verbatim.proofs.leave.Reads as leave-reads
-use Rattle.verbatim.proofs.opened_as.Reads as opened-as-reads
-use Rattle.verbatim.proofs.taken.Reads as taken-reads
 
 place-at-requires : tie.Need-place-at-requires
 place-at-requires c κs = search needs

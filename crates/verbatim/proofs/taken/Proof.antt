@@ -1,8 +1,7 @@
+-- `verbatim::taken` meets its contract, by the laws of `Answers`.
 use Rattle.verbatim.proofs.Answers.{taken-there, taken-none}
 use Rattle.verbatim.proofs.taken.Statement.{statement}
 use Rattle.verbatim.proofs.taken.Tie as tie
-use Rattle.verbatim.proofs.taken.Reads as reads
-use Rattle.verbatim.proofs.taken.Lts as lts
 
 returns : tie.Need-returns
 returns c =
