@@ -148,7 +148,8 @@ pub fn push(queue: &mut [u32], p: Parser, e: Event, last: Last) -> Parser
 pub fn put(line: &[u8], m: Margin, kind: u32, h: Span, p: Parser, queue: &mut [u32]) -> Parser
     requires { ⌜ Fits (now line) m h ⌝ }
     requires { ⌜ Room 1 p (now queue) ⌝ }
-    ensures { λ r. ⌜ ((o : List ℕ) → Changed p (now (queue .entry)) o r (now (queue .exit)) o (staying p (machine.put (viewed m (now (line .entry))) kind (h .from) (h .to)))) ⌝ }
+    ensures { λ r. ⌜ ((o : List ℕ) → Changed p (now (queue .entry)) o r (now (queue .exit)) o (staying p (machine.put (viewed m
+        (now (line .entry))) kind (h .from) (h .to)))) ⌝ }
 {
     let last = last_of(line, m, kind, h);
     push(queue, p, homed(m, kind, nowhere(), h.from, h.to), last)
@@ -178,7 +179,8 @@ pub fn dots(line: &[u8], m: Margin, h: Span, p: Parser, queue: &mut [u32]) -> Pa
     requires { ⌜ Fits (now line) m h ⌝ }
     requires { ⌜ h .from < h .to ⌝ }
     requires { ⌜ Room (h .to - h .from) p (now queue) ⌝ }
-    ensures { λ r. ⌜ ((o : List ℕ) → Changed p (now (queue .entry)) o r (now (queue .exit)) o (staying p (said.dots (viewed m (now (line .entry))) (h .from) (h .to - h .from)))) ⌝ }
+    ensures { λ r. ⌜ ((o : List ℕ) → Changed p (now (queue .entry)) o r (now (queue .exit)) o (staying p (said.dots (viewed m
+        (now (line .entry))) (h .from) (h .to - h .from)))) ⌝ }
 {
     let d = dash::split_periods(h.to - h.from);
     let k = d.ellipses;
@@ -195,7 +197,8 @@ pub fn dashes(m: Margin, h: Span, p: Parser, queue: &mut [u32]) -> Parser
     requires { ⌜ h .from + 2 ≤ h .to ⌝ }
     requires { ⌜ m .base + h .to ≤ 1048576 ⌝ }
     requires { ⌜ Room (h .to - h .from) p (now queue) ⌝ }
-    ensures { λ r. ⌜ ((o : List ℕ) → Changed p (now (queue .entry)) o r (now (queue .exit)) o (staying p (puts (said.dashes (dashesOf (h .to - h .from)) (m .base + h .from)) machine.no-str))) ⌝ }
+    ensures { λ r. ⌜ ((o : List ℕ) → Changed p (now (queue .entry)) o r (now (queue .exit)) o (staying p (puts (said.dashes (dashesOf
+        (h .to - h .from)) (m .base + h .from)) machine.no-str))) ⌝ }
 {
     let d = dash::split_hyphens(h.to - h.from);
     let out = row(m, 8, 3, d.em, h.from, p, queue);

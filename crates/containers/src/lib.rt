@@ -54,7 +54,8 @@ fn closes_pair(m: Margin, h: Span, pair: Pair, o: Opener, p: Parser, queue: &mut
     requires { ⌜ m .base + h .to ≤ 1048576 ⌝ }
     requires { ⌜ o .event < p .events ⌝ }
     requires { ⌜ Room 1 p (now queue) ⌝ }
-    ensures { λ r. ⌜ ((os line : List ℕ) → Changed p (now (queue .entry)) os r (now (queue .exit)) os (staying p (said.closes-pair (viewed m line) (here h p) (pair .first) (pair .second) o))) ⌝ }
+    ensures { λ r. ⌜ ((os line : List ℕ) → Changed p (now (queue .entry)) os r (now (queue .exit)) os (staying p (said.closes-pair
+        (viewed m line) (here h p) (pair .first) (pair .second) o))) ⌝ }
 {
     rooms::set_kind(queue, o.event, pair.first, atoms::nowhere());
     let e = atoms::homed(m, pair.second, atoms::nowhere(), h.from, h.to);
@@ -78,7 +79,8 @@ fn takes_along(
     requires { ⌜ span < 2 ^ 32 ⌝ }
     requires { ⌜ p .openers < 2 ^ 32 ⌝ }
     requires { ⌜ p .openers * 4 + 4 ≤ length (now openers) ⌝ }
-    ensures { λ r. ⌜ Changed p (now (queue .entry)) (now (openers .entry)) r (now (queue .exit)) (now (openers .exit)) (along-with (viewed m (now (line .entry))) h sort span p) ⌝ }
+    ensures { λ r. ⌜ Changed p (now (queue .entry)) (now (openers .entry)) r (now (queue .exit)) (now (openers .exit)) (along-with (viewed m
+        (now (line .entry))) h sort span p) ⌝ }
 {
     let o = Opener {
         sort: sort,
@@ -108,7 +110,8 @@ fn closes_span(
 ) -> Parser
     requires { ⌜ Ready (now line) m h p (now queue) (now openers) ⌝ }
     requires { ⌜ o .event < p .events ⌝ }
-    ensures { λ r. ⌜ Changed p (now (queue .entry)) (now (openers .entry)) r (now (queue .exit)) (now (openers .exit)) (span-closed (viewed m (now (line .entry))) (here h p) image o) ⌝ }
+    ensures { λ r. ⌜ Changed p (now (queue .entry)) (now (openers .entry)) r (now (queue .exit)) (now (openers .exit)) (span-closed
+        (viewed m (now (line .entry))) (here h p) image o) ⌝ }
 {
     let c = p.cursor;
     let ahead = c.peek(line);
@@ -170,7 +173,8 @@ fn open_as(
     openers: &mut [u32],
 ) -> Parser
     requires { ⌜ Ready (now line) m h p (now queue) (now openers) ⌝ }
-    ensures { λ r. ⌜ Changed p (now (queue .entry)) (now (openers .entry)) r (now (queue .exit)) (now (openers .exit)) (staying p (said.open-as (viewed m (now (line .entry))) (here h p) sort)) ⌝ }
+    ensures { λ r. ⌜ Changed p (now (queue .entry)) (now (openers .entry)) r (now (queue .exit)) (now (openers .exit)) (staying p
+        (said.open-as (viewed m (now (line .entry))) (here h p) sort)) ⌝ }
 {
     let o = Opener {
         sort: sort,
@@ -194,7 +198,8 @@ fn opens_or(
     openers: &mut [u32],
 ) -> Parser
     requires { ⌜ Ready (now line) m h p (now queue) (now openers) ⌝ }
-    ensures { λ r. ⌜ Changed p (now (queue .entry)) (now (openers .entry)) r (now (queue .exit)) (now (openers .exit)) (staying p (said.opens-or (viewed m (now (line .entry))) (here h p) (k .alone) (k .opens))) ⌝ }
+    ensures { λ r. ⌜ Changed p (now (queue .entry)) (now (openers .entry)) r (now (queue .exit)) (now (openers .exit)) (staying p
+        (said.opens-or (viewed m (now (line .entry))) (here h p) (k .alone) (k .opens))) ⌝ }
 {
     let opens = k.opens;
     let Opens::Some(sort) = opens else {
@@ -221,7 +226,9 @@ fn close_as(
     requires { ⌜ Ready (now line) m h p (now queue) (now openers) ⌝ }
     requires { ⌜ Shelving p (now labels) ⌝ }
     requires { ⌜ Names (closing-of (o .sort)) o (p .events) ⌝ }
-    ensures { λ r. ⌜ ((rules : Rules) → Stepped p (now (queue .entry)) (now (openers .entry)) (now (labels .entry)) r (now (queue .exit)) (now (openers .exit)) (now (labels .exit)) (said.close-as (sheetOf rules (now (text .entry)) (now (labels .entry))) (viewed m (now (line .entry))) (here h p) o (closing-of (o .sort)))) ⌝ }
+    ensures { λ r. ⌜ ((rules : Rules) → Stepped p (now (queue .entry)) (now (openers .entry)) (now (labels .entry)) r (now (queue .exit))
+        (now (openers .exit)) (now (labels .exit)) (said.close-as (sheetOf rules (now (text .entry)) (now (labels .entry))) (viewed m
+        (now (line .entry))) (here h p) o (closing-of (o .sort)))) ⌝ }
 {
     let sort = o.sort;
     match tables::closing_of(sort) {
@@ -238,7 +245,8 @@ fn tried(line: &[u8], m: Margin, h: Span, closes: u32, p: Parser, openers: &[u32
     requires { ⌜ h .from ≤ length (now line) ⌝ }
     requires { ⌜ p .openers * 4 ≤ length (now openers) ⌝ }
     requires { ⌜ Named (opens (p .openers) (now openers)) (p .events) ⌝ }
-    ensures { λ r. ⌜ ((q l : List ℕ) → r ≡ closable (viewed m (now (line .entry))) (here h p) (stands p q (now (openers .entry)) l) (said.seek closes (opens (p .openers) (now (openers .entry))))) ⌝ }
+    ensures { λ r. ⌜ ((q l : List ℕ) → r ≡ closable (viewed m (now (line .entry))) (here h p) (stands p q (now (openers .entry)) l)
+        (said.seek closes (opens (p .openers) (now (openers .entry))))) ⌝ }
 {
     let Found::At(i) = rooms::seek(openers, p.openers, closes) else {
         return Found::Nothing;
@@ -263,7 +271,9 @@ pub fn container(
 ) -> Parser
     requires { ⌜ Ready (now line) m h p (now queue) (now openers) ⌝ }
     requires { ⌜ Shelving p (now labels) ⌝ }
-    ensures { λ r. ⌜ ((rules : Rules) → Stepped p (now (queue .entry)) (now (openers .entry)) (now (labels .entry)) r (now (queue .exit)) (now (openers .exit)) (now (labels .exit)) (said.container (sheetOf rules (now (text .entry)) (now (labels .entry))) (viewed m (now (line .entry))) (here h p) k)) ⌝ }
+    ensures { λ r. ⌜ ((rules : Rules) → Stepped p (now (queue .entry)) (now (openers .entry)) (now (labels .entry)) r (now (queue .exit))
+        (now (openers .exit)) (now (labels .exit)) (said.container (sheetOf rules (now (text .entry)) (now (labels .entry))) (viewed m
+        (now (line .entry))) (here h p) k)) ⌝ }
 {
     let Found::At(i) = tried(line, m, h, k.closes, p, openers) else {
         return opens_or(line, m, h, k, p, queue, openers);

@@ -20,7 +20,7 @@ use Rattle.rooms.specs.declared.Margin.{Margin}
 use Rattle.rooms.specs.Records.{eventAt}
 use Rattle.rooms.specs.Standing.{stands, staying, Changed}
 use Rattle.rooms.proofs.Rows.{rows-length}
-use Rattle.inline.specs.Before.{Lined, Stood, Sheeted, Closing, ending, lines-of}
+use Rattle.inline.specs.Asks.{Lined, StandsFor, Sheeted, Closing, ending, lines-of}
 use Rattle.inline.proofs.Turning.{good-opened}
 
 -- the line records of two lists of one length
@@ -154,7 +154,7 @@ module _ (text starts ends : List ℕ) (reading : ℕ) (q₀ o₀ l₀ : List �
 
       -- what it gives
       pub head-next : (m : Margin) → m ≡ record { base = here .start; before = byte-before text (here .start) } → (r : Parser) (q′ o′ l′ : List ℕ)
-          → Stood r q′ o′ l′ (line-of (sheet text reading (length l)) (record { base = m .base; before = m .before; bytes = viewOf text here .bytes }) (stands p q o l))
+          → StandsFor r q′ o′ l′ (line-of (sheet text reading (length l)) (record { base = m .base; before = m .before; bytes = viewOf text here .bytes }) (stands p q o l))
           → length q′ ≡ length q → length o′ ≡ length o → length l′ ≡ length l → Head text starts ends reading q₀ o₀ l₀ q′ o′ l′ r (here .end) (i + 1)
       unfolding Apart lines end-of
       head-next m is r q′ o′ l′ st lq lo ll =
@@ -214,7 +214,7 @@ module _ (text starts ends : List ℕ) (reading : ℕ) (q₀ o₀ l₀ : List �
       pub end-closing : Closing (p .refused) p q
       end-closing = closing-by (p .refused) refl
 
-      pub head-last : (r : Parser) (q′ : List ℕ) → Changed p q o r q′ o (staying p (ending end)) → Stood r q′ o l (read x ls)
+      pub head-last : (r : Parser) (q′ : List ℕ) → Changed p q o r q′ o (staying p (ending end)) → StandsFor r q′ o l (read x ls)
       head-last r q′ c =
           record {
             same = ap (λ (a : Turn). a .state) (c .same l) ∙ ap (λ (b : ℕ). ending b (stands p q o l)) same-end ∙ ap (ending (end-of ls 0)) same-all;

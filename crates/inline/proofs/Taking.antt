@@ -34,7 +34,7 @@ use Rattle.rooms.specs.Standing.{stands, turn, viewed, here, moved, staying, Ch
 use Rattle.verbatim.specs.Opened.{Opened, OpenedBy}
 use Rattle.containers.specs.Ready.{Ready, Shelving}
 use Rattle.outside.specs.Outside.{Ending, Ended}
-use Rattle.inline.specs.Before.{Before, overOf, ending, Closing}
+use Rattle.inline.specs.Asks.{Before, overOf, ending, Closing}
 
 module _ (text : List ℕ) (reading : ℕ) (line : List ℕ) (m : Margin) (p : Parser) (q o l : List ℕ) (b : Before line m p q o l) (a : Lexed)
     (isa : a ≡ nextOf line (p .cursor)) where

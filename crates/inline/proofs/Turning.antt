@@ -31,7 +31,7 @@ use Rattle.rooms.specs.Standing.{stands, turn, viewed, Stepped}
 use Rattle.rooms.proofs.Rows.{rows-length, rows-at, pile-length}
 use Rattle.verbatim.specs.Opened.{OpenedBy, Begun}
 use Rattle.outside.specs.Outside.{Ended}
-use Rattle.inline.specs.Before.{Before, Lined, Stood, overOf}
+use Rattle.inline.specs.Asks.{Before, Lined, StandsFor, overOf}
 
 -- the test of a line's end, taken apart
 pub on-still : (n pos : ℕ) (r : Refused) → overOf n pos r ≡ false → (r ≡ refused.No) × (pos < n)
@@ -202,17 +202,17 @@ module _ (text line : List ℕ) (m : Margin) (reading : ℕ) (q₀ o₀ l₀ : L
 
     -- the line is at its end, or the sheet is refused
     module _ (s : State) (is₀ : turn out₀ q₀ o₀ l₀ ≡ begun x v s) where
-      all : turn out q o l ≡ steps left x v (turn out q o l) → Stood out q o l (line-of x v s)
+      all : turn out q o l ≡ steps left x v (turn out q o l) → StandsFor out q o l (line-of x v s)
       all e =
           record {
             same = ap (λ (a : Turn). a .state) (e ∙ t .same ∙ ap (λ (a : Turn). steps (length line) x v a) is₀);
             labels = t .labels;
           }
 
-      pub turns-over : overOf (length line) (out .cursor .pos) (out .refused) ≡ true → Stood out q o l (line-of x v s)
+      pub turns-over : overOf (length line) (out .cursor .pos) (out .refused) ≡ true → StandsFor out q o l (line-of x v s)
       turns-over e =
           all (sym (steps-still x left v (turn out q o l)
           (λ z. step-end x v (turn out q o l) (t .held .sound) (over-still (length line) (out .cursor .pos) (out .refused) e z))))
 
-      pub turns-last : left ≤ 0 → Stood out q o l (line-of x v s)
+      pub turns-last : left ≤ 0 → StandsFor out q o l (line-of x v s)
       turns-last h = all (no-steps x v (turn out q o l) left h)

@@ -7,7 +7,7 @@ ghost use Rattle.reading.specs.Machine.{byte-before};
 ghost use Rattle.reading.specs.Verbatim as said;
 ghost use Rattle.reading.specs.Reading.{step, line as line-of, read as read-of, start, sheet};
 ghost use Rattle.rooms.specs.Standing.{stands, viewed, Stepped, Changed, Room, staying};
-ghost use Rattle.inline.specs.Before.{Before, Lined, Sheeted, Stood, ending, overOf, Closing, lines-of};
+ghost use Rattle.inline.specs.Asks.{Before, Lined, Sheeted, StandsFor, ending, overOf, Closing, lines-of};
 use lex::Cursor;
 use lex::Next;
 use reading::Inside;
@@ -30,7 +30,9 @@ fn parse_event(
     labels: &mut [u8],
 ) -> Parser
     requires { ⌜ Before (now line) m p (now queue) (now openers) (now labels) ⌝ }
-    ensures { λ r. ⌜ Stepped p (now (queue .entry)) (now (openers .entry)) (now (labels .entry)) r (now (queue .exit)) (now (openers .exit)) (now (labels .exit)) (λ s. step (sheet (now (text .entry)) reading (length (now (labels .entry)))) (viewed m (now (line .entry))) (record { cursor = p .cursor; state = s })) ⌝ }
+    ensures { λ r. ⌜ Stepped p (now (queue .entry)) (now (openers .entry)) (now (labels .entry)) r (now (queue .exit)) (now (openers .exit))
+        (now (labels .exit)) (λ s. step (sheet (now (text .entry)) reading (length (now (labels .entry)))) (viewed m (now (line .entry)))
+        (record { cursor = p .cursor; state = s })) ⌝ }
 {
     let c = p.cursor;
     let lexed = c.next(line);
@@ -88,7 +90,9 @@ fn read_line(
     labels: &mut [u8],
 ) -> Parser
     requires { ⌜ Lined (now text) (now line) m reading p (now queue) (now openers) (now labels) ⌝ }
-    ensures { λ r. ⌜ Stood r (now (queue .exit)) (now (openers .exit)) (now (labels .exit)) (line-of (sheet (now (text .entry)) reading (length (now (labels .entry)))) (viewed m (now (line .entry))) (stands p (now (queue .entry)) (now (openers .entry)) (now (labels .entry)))) ⌝ }
+    ensures { λ r. ⌜ StandsFor r (now (queue .exit)) (now (openers .exit)) (now (labels .exit)) (line-of (sheet (now (text .entry)) reading
+        (length (now (labels .entry)))) (viewed m (now (line .entry))) (stands p (now (queue .entry)) (now (openers .entry))
+        (now (labels .entry)))) ⌝ }
 {
     let n = line.len();
     let mut out = verbatim::begun(reading, p);
@@ -160,7 +164,8 @@ pub fn parse(
     labels: &mut [u8],
 ) -> Parser
     requires { ⌜ Sheeted (now text) (now starts) (now ends) (now queue) (now openers) (now labels) ⌝ }
-    ensures { λ r. ⌜ Stood r (now (queue .exit)) (now (openers .exit)) (now (labels .exit)) (read-of (sheet (now (text .entry)) reading (length (now (labels .entry)))) (lines-of (now (starts .entry)) (now (ends .entry)))) ⌝ }
+    ensures { λ r. ⌜ StandsFor r (now (queue .exit)) (now (openers .exit)) (now (labels .exit)) (read-of (sheet (now (text .entry)) reading
+        (length (now (labels .entry)))) (lines-of (now (starts .entry)) (now (ends .entry)))) ⌝ }
 {
     let mut p = fresh();
     let mut end = 0;

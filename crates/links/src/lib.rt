@@ -35,7 +35,8 @@ pub fn closes_link(
     requires { ⌜ p .labels ≤ length (now labels) ⌝ }
     requires { ⌜ length (now labels) < 2 ^ 32 ⌝ }
     requires { ⌜ p .links .0 + 1 < 2 ^ 32 ⌝ }
-    ensures { λ r. ⌜ ((rules : Rules) (os line : List ℕ) → Stepped p (now (queue .entry)) os (now (labels .entry)) r (now (queue .exit)) os (now (labels .exit)) (staying p (linked rules (now (text .entry)) (now (labels .entry)) (viewed m line) (here h p) t o))) ⌝ }
+    ensures { λ r. ⌜ ((rules : Rules) (os line : List ℕ) → Stepped p (now (queue .entry)) os (now (labels .entry)) r (now (queue .exit)) os
+        (now (labels .exit)) (staying p (linked rules (now (text .entry)) (now (labels .entry)) (viewed m line) (here h p) t o))) ⌝ }
 {
     let links = p.links;
     let event = o.event;

@@ -59,7 +59,9 @@ fn angle(
 ) -> Parser
     requires { ⌜ Ready (now line) m h p (now queue) (now openers) ⌝ }
     requires { ⌜ Shelving p (now labels) ⌝ }
-    ensures { λ r. ⌜ ((rules : Rules) → Stepped p (now (queue .entry)) (now (openers .entry)) (now (labels .entry)) r (now (queue .exit)) (now (openers .exit)) (now (labels .exit)) (said.angle (sheetOf rules (now (text .entry)) (now (labels .entry))) (viewed m (now (line .entry))) (here h p) (autolinkOf (drop (h .to) (now (line .entry)))))) ⌝ }
+    ensures { λ r. ⌜ ((rules : Rules) → Stepped p (now (queue .entry)) (now (openers .entry)) (now (labels .entry)) r (now (queue .exit))
+        (now (openers .exit)) (now (labels .exit)) (said.angle (sheetOf rules (now (text .entry)) (now (labels .entry))) (viewed m
+        (now (line .entry))) (here h p) (autolinkOf (drop (h .to) (now (line .entry)))))) ⌝ }
 {
     let Ahead::Some(n) = scan::ahead_autolink(line, h.to) else {
         return containers::container(text, line, m, h, plain(1), p, queue, openers, labels);
@@ -80,7 +82,9 @@ fn colon(
 ) -> Parser
     requires { ⌜ Ready (now line) m h p (now queue) (now openers) ⌝ }
     requires { ⌜ Shelving p (now labels) ⌝ }
-    ensures { λ r. ⌜ ((rules : Rules) → Stepped p (now (queue .entry)) (now (openers .entry)) (now (labels .entry)) r (now (queue .exit)) (now (openers .exit)) (now (labels .exit)) (said.colon (sheetOf rules (now (text .entry)) (now (labels .entry))) (viewed m (now (line .entry))) (here h p) (symbolOf (drop (h .to) (now (line .entry)))))) ⌝ }
+    ensures { λ r. ⌜ ((rules : Rules) → Stepped p (now (queue .entry)) (now (openers .entry)) (now (labels .entry)) r (now (queue .exit))
+        (now (openers .exit)) (now (labels .exit)) (said.colon (sheetOf rules (now (text .entry)) (now (labels .entry))) (viewed m
+        (now (line .entry))) (here h p) (symbolOf (drop (h .to) (now (line .entry)))))) ⌝ }
 {
     let Ahead::Some(n) = scan::ahead_symbol(line, h.to) else {
         return containers::container(text, line, m, h, plain(1), p, queue, openers, labels);
@@ -101,7 +105,9 @@ fn noted(
 ) -> Parser
     requires { ⌜ Ready (now line) m h p (now queue) (now openers) ⌝ }
     requires { ⌜ Shelving p (now labels) ⌝ }
-    ensures { λ r. ⌜ ((rules : Rules) → Stepped p (now (queue .entry)) (now (openers .entry)) (now (labels .entry)) r (now (queue .exit)) (now (openers .exit)) (now (labels .exit)) (said.noted (sheetOf rules (now (text .entry)) (now (labels .entry))) (viewed m (now (line .entry))) (here h p) (footnoteOf (drop (h .to) (now (line .entry)))))) ⌝ }
+    ensures { λ r. ⌜ ((rules : Rules) → Stepped p (now (queue .entry)) (now (openers .entry)) (now (labels .entry)) r (now (queue .exit))
+        (now (openers .exit)) (now (labels .exit)) (said.noted (sheetOf rules (now (text .entry)) (now (labels .entry))) (viewed m
+        (now (line .entry))) (here h p) (footnoteOf (drop (h .to) (now (line .entry)))))) ⌝ }
 {
     let Ahead::Some(n) = scan::ahead_footnote(line, h.to) else {
         return containers::container(text, line, m, h, bracket(), p, queue, openers, labels);
@@ -122,7 +128,9 @@ fn bracketed(
 ) -> Parser
     requires { ⌜ Ready (now line) m h p (now queue) (now openers) ⌝ }
     requires { ⌜ Shelving p (now labels) ⌝ }
-    ensures { λ r. ⌜ ((rules : Rules) → Stepped p (now (queue .entry)) (now (openers .entry)) (now (labels .entry)) r (now (queue .exit)) (now (openers .exit)) (now (labels .exit)) (bracketing (sheetOf rules (now (text .entry)) (now (labels .entry))) (viewed m (now (line .entry))) (here h p))) ⌝ }
+    ensures { λ r. ⌜ ((rules : Rules) → Stepped p (now (queue .entry)) (now (openers .entry)) (now (labels .entry)) r (now (queue .exit))
+        (now (openers .exit)) (now (labels .exit)) (bracketing (sheetOf rules (now (text .entry)) (now (labels .entry))) (viewed m
+        (now (line .entry))) (here h p))) ⌝ }
 {
     let c = p.cursor;
     let ahead = c.peek(line);
@@ -191,7 +199,9 @@ fn backticks(
     requires { ⌜ Ready (now line) m h p (now queue) (now openers) ⌝ }
     requires { ⌜ Shelving p (now labels) ⌝ }
     requires { ⌜ Ended p (now queue) ⌝ }
-    ensures { λ r. ⌜ ((rules : Rules) → Stepped p (now (queue .entry)) (now (openers .entry)) (now (labels .entry)) r (now (queue .exit)) (now (openers .exit)) (now (labels .exit)) (said.outside (sheetOf rules (now (text .entry)) (now (labels .entry))) (viewed m (now (line .entry))) (here h p) Role.Backticks)) ⌝ }
+    ensures { λ r. ⌜ ((rules : Rules) → Stepped p (now (queue .entry)) (now (openers .entry)) (now (labels .entry)) r (now (queue .exit))
+        (now (openers .exit)) (now (labels .exit)) (said.outside (sheetOf rules (now (text .entry)) (now (labels .entry))) (viewed m
+        (now (line .entry))) (here h p) Role.Backticks)) ⌝ }
 {
     if h.to - h.from <= 255 {
         return verbatim::opens_verbatim(m, h, p, queue);
@@ -212,7 +222,9 @@ fn hyphens(
 ) -> Parser
     requires { ⌜ Ready (now line) m h p (now queue) (now openers) ⌝ }
     requires { ⌜ Shelving p (now labels) ⌝ }
-    ensures { λ r. ⌜ ((rules : Rules) → Stepped p (now (queue .entry)) (now (openers .entry)) (now (labels .entry)) r (now (queue .exit)) (now (openers .exit)) (now (labels .exit)) (said.outside (sheetOf rules (now (text .entry)) (now (labels .entry))) (viewed m (now (line .entry))) (here h p) Role.Hyphens)) ⌝ }
+    ensures { λ r. ⌜ ((rules : Rules) → Stepped p (now (queue .entry)) (now (openers .entry)) (now (labels .entry)) r (now (queue .exit))
+        (now (openers .exit)) (now (labels .exit)) (said.outside (sheetOf rules (now (text .entry)) (now (labels .entry))) (viewed m
+        (now (line .entry))) (here h p) Role.Hyphens)) ⌝ }
 {
     if h.to - h.from < 2 {
         return containers::container(text, line, m, h, plain(1), p, queue, openers, labels);
@@ -235,7 +247,9 @@ pub fn outside(
     requires { ⌜ Ready (now line) m h p (now queue) (now openers) ⌝ }
     requires { ⌜ Shelving p (now labels) ⌝ }
     requires { ⌜ Ended p (now queue) ⌝ }
-    ensures { λ r. ⌜ ((rules : Rules) → Stepped p (now (queue .entry)) (now (openers .entry)) (now (labels .entry)) r (now (queue .exit)) (now (openers .exit)) (now (labels .exit)) (said.outside (sheetOf rules (now (text .entry)) (now (labels .entry))) (viewed m (now (line .entry))) (here h p) role)) ⌝ }
+    ensures { λ r. ⌜ ((rules : Rules) → Stepped p (now (queue .entry)) (now (openers .entry)) (now (labels .entry)) r (now (queue .exit))
+        (now (openers .exit)) (now (labels .exit)) (said.outside (sheetOf rules (now (text .entry)) (now (labels .entry))) (viewed m
+        (now (line .entry))) (here h p) role)) ⌝ }
 {
     match role {
         Role::Backticks => backticks(text, line, m, h, p, queue, openers, labels),

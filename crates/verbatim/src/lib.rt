@@ -24,7 +24,7 @@ use rooms::Span;
 use scan::Ahead;
 
 // What an event is by its kind: an enter or an exit, with its container, or neither.
-pub enum EventKind {
+enum EventKind {
     Atom(u32),
     Enter(u32),
     Exit(u32),
@@ -225,7 +225,8 @@ fn closes_raw(m: Margin, h: Span, n: usize, w: Verbatim, p: Parser, queue: &mut 
     requires { ⌜ m .base + h .to + 2 + n + 1 ≤ 1048576 ⌝ }
     requires { ⌜ Opened w p (now queue) ⌝ }
     requires { ⌜ Room 1 p (now queue) ⌝ }
-    ensures { λ r. ⌜ ((o line : List ℕ) (c : Cursor) → Changed p (now (queue .entry)) o r (now (queue .exit)) o (said.closed-with (viewed m line) (here h p) c w (Ahead.Some n))) ⌝ }
+    ensures { λ r. ⌜ ((o line : List ℕ) (c : Cursor) → Changed p (now (queue .entry)) o r (now (queue .exit)) o (said.closed-with
+        (viewed m line) (here h p) c w (Ahead.Some n))) ⌝ }
 {
     let a = h.to + 2;
     rooms::set_kind(queue, w.event, 41, atoms::in_text(m, a, a + n));
@@ -254,7 +255,8 @@ fn closes_verbatim(
     requires { ⌜ Fits (now line) m h ⌝ }
     requires { ⌜ Opened w p (now queue) ⌝ }
     requires { ⌜ Room 1 p (now queue) ⌝ }
-    ensures { λ r. ⌜ ((o : List ℕ) → Changed p (now (queue .entry)) o r (now (queue .exit)) o (said.closes-verbatim (rulesOf reading) (viewed m (now (line .entry))) (here h p) w)) ⌝ }
+    ensures { λ r. ⌜ ((o : List ℕ) → Changed p (now (queue .entry)) o r (now (queue .exit)) o (said.closes-verbatim (rulesOf reading)
+        (viewed m (now (line .entry))) (here h p) w)) ⌝ }
 {
     let c = flagged(p.cursor, after(reading, w.here));
     let peeked = c.peek(line);
@@ -302,7 +304,8 @@ fn content(
 ) -> Parser
     requires { ⌜ Fits (now line) m h ⌝ }
     requires { ⌜ Room 1 p (now queue) ⌝ }
-    ensures { λ r. ⌜ ((o : List ℕ) (t : Token) → run ≡ is-run (role-of (t .kind)) → Changed p (now (queue .entry)) o r (now (queue .exit)) o (staying p (said.content (viewed m (now (line .entry))) (here h p) t w))) ⌝ }
+    ensures { λ r. ⌜ ((o : List ℕ) (t : Token) → run ≡ is-run (role-of (t .kind)) → Changed p (now (queue .entry)) o r (now (queue .exit)) o
+        (staying p (said.content (viewed m (now (line .entry))) (here h p) t w))) ⌝ }
 {
     let mut seen = w;
     seen.seen = true;
@@ -351,7 +354,8 @@ pub fn in_verbatim(
     requires { ⌜ Fits (now line) m h ⌝ }
     requires { ⌜ Opened w p (now queue) ⌝ }
     requires { ⌜ Room 1 p (now queue) ⌝ }
-    ensures { λ r. ⌜ ((o : List ℕ) → Changed p (now (queue .entry)) o r (now (queue .exit)) o (said.in-verbatim (rulesOf reading) (viewed m (now (line .entry))) (here h p) t w)) ⌝ }
+    ensures { λ r. ⌜ ((o : List ℕ) → Changed p (now (queue .entry)) o r (now (queue .exit)) o (said.in-verbatim (rulesOf reading) (viewed m
+        (now (line .entry))) (here h p) t w)) ⌝ }
 {
     let kind = t.kind;
     let run = tables::is_run(tables::role_of(kind));

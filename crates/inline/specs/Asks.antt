@@ -57,7 +57,7 @@ pub record Lined (text line : List ℕ) (m : Margin) (reading : ℕ) (p : Parser
   pub links : p .links .0 ≤ count
 
 -- what a parser and its rooms stand for
-pub record Stood (r : Parser) (q o l : List ℕ) (s : State) : Type 0 where
+pub record StandsFor (r : Parser) (q o l : List ℕ) (s : State) : Type 0 where
   pub same : stands r q o l ≡ s
   pub labels : r .labels ≤ length l
 
