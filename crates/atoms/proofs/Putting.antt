@@ -53,11 +53,11 @@ module _ (p : Parser) (q o : List ℕ) (r : Parser) (q′ : List ℕ) (es : List
       ∙ length-append (events (p .events) q) es
       ∙ ap (λ (n : ℕ). n + length es) (rows-length eventAt (p .events) q)
 
-  pub put-cursor : r .cursor ≡ p .cursor
+  put-cursor : r .cursor ≡ p .cursor
   put-cursor = changed-cursor p q o r q′ o (staying p (puts es l)) c
 
 -- events put, and others behind them
-pub puts-puts : (ds es : List Event) (k l : Last) (s : State) → puts es l (puts ds k s) ≡ puts (ds ++ es) l s
+puts-puts : (ds es : List Event) (k l : Last) (s : State) → puts es l (puts ds k s) ≡ puts (ds ++ es) l s
 puts-puts ds es k l s = ap (λ (q : List Event). record {
   queue = q;
   openers = s .openers;
@@ -71,19 +71,11 @@ puts-puts ds es k l s = ap (λ (q : List Event). record {
 
 module _ (p : Parser) (q o : List ℕ) (r : Parser) (q′ : List ℕ) (ds : List Event) (k : Last) (c : Changed p q o r q′ o (staying p (puts ds k))) where
   -- two changes that put events are one
-  pub puts-then : (t : Parser) (q″ : List ℕ) (es : List Event) (l : Last) → Changed r q′ o t q″ o (staying r (puts es l))
+  puts-then : (t : Parser) (q″ : List ℕ) (es : List Event) (l : Last) → Changed r q′ o t q″ o (staying r (puts es l))
       → Changed p q o t q″ o (staying p (puts (ds ++ es) l))
   puts-then t q″ es l d =
       then p q o r q′ o (staying p (puts ds k)) c t q″ o (staying r (puts es l)) (staying p (puts (ds ++ es) l)) d
       (λ s. rw (put-cursor p q o r q′ ds k c, puts-puts ds es k l s))
-
-  -- and the cursor moved
-  pub puts-moved : (b : Cursor) → Changed p q o (moved r b) q′ o (λ s. record { cursor = b; state = puts ds k s })
-  puts-moved b =
-      record {
-        same = λ l. ap (λ (a : Turn). record { cursor = b; state = a .state }) (c .same l);
-        labels = c .labels;
-      }
 
 -- one of n more widths
 pub mul-one-up : (n w : ℕ) → 0 < n → w ≤ n * w

@@ -27,6 +27,7 @@ use Rattle.rooms.specs.declared.Found.the-variants.{At, Nothing}
 use Rattle.rooms.specs.Records.{openerAt, opens, place}
 use Rattle.rooms.specs.Standing.{stands, viewed, here, moved, staying, Changed, Stepped}
 use Rattle.rooms.proofs.Rows.{pile-length}
+use Rattle.rooms.proofs.Changing.{changed-stepped}
 use Rattle.rooms.proofs.Search.{found-at, place-none}
 use Rattle.links.specs.Linked.{linked, sheetOf}
 use Rattle.containers.specs.Ready.{Ready, Shelving, span-closed, closable}
@@ -45,7 +46,7 @@ pub named-link : (x : Opener) (n : ℕ) (d : DelimEventKind) (t : Target) → Na
 unfolding Names
 named-link x n d t h e = subst (λ (y : DelimEventKind). Names y x n) e h
 
-pub named-event : (x : Opener) (n : ℕ) (d : DelimEventKind) → Names d x n → x .event < n
+named-event : (x : Opener) (n : ℕ) (d : DelimEventKind) → Names d x n → x .event < n
 unfolding Names
 named-event x n (makes.Pair k) h = h
 named-event x n (makes.Span i) h = h
@@ -108,7 +109,7 @@ module _ (m : Margin) (text line : List ℕ) (h : Span) (x : Opener) (p : Parser
       → Changed p q o r q′ o′ (span-closed (viewed m line) (here h p) image x) → Stepped p q o l r q′ o′ l (closing (closing-of (x .sort)))
   unfolding close-as
   span-step image e r q′ o′ c =
-      as-it-is (makes.Span image) e r q′ o′ l record { same = c .same l; labels = omega (arith, c .labels, sh .labels) }
+      as-it-is (makes.Span image) e r q′ o′ l (changed-stepped p q o r q′ o′ (span-closed (viewed m line) (here h p) image x) c l (sh .labels))
 
   pub link-as : (t : Target) → closing-of (x .sort) ≡ makes.Link t → (r : Parser) (q′ l′ : List ℕ)
       → Stepped p q o l r q′ o l′ (staying p (linked rules text l (viewed m line) (here h p) t x))

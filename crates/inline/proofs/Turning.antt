@@ -34,12 +34,12 @@ use Rattle.outside.specs.Outside.{Ended}
 use Rattle.inline.specs.Asks.{Before, Lined, StandsFor, overOf}
 
 -- the test of a line's end, taken apart
-pub on-still : (n pos : ℕ) (r : Refused) → overOf n pos r ≡ false → (r ≡ refused.No) × (pos < n)
+on-still : (n pos : ℕ) (r : Refused) → overOf n pos r ≡ false → (r ≡ refused.No) × (pos < n)
 unfolding overOf
 on-still n pos (refused.At p) e = let z : _≡_ {A = ℕ} 0 1 = cc in absurd (omega arith)
 on-still n pos refused.No e = (refl, leb-false n pos e)
 
-pub over-still : (n pos : ℕ) (r : Refused) → overOf n pos r ≡ true → r ≡ refused.No → n ≤ pos
+over-still : (n pos : ℕ) (r : Refused) → overOf n pos r ≡ true → r ≡ refused.No → n ≤ pos
 unfolding overOf
 over-still n pos (refused.At p) e is = absurd (met p is)
 over-still n pos refused.No e is = leb-true n pos e
@@ -76,7 +76,7 @@ module _ (text : List ℕ) (at n : ℕ) (p : Parser) (q o l : List ℕ) where
         below = rw e at (k .1);
       }
 
-  pub good-ended : (w : Inside) → w ≡ inside.No → GoodBy Any text w at n (stands p q o l) → Ended p q
+  good-ended : (w : Inside) → w ≡ inside.No → GoodBy Any text w at n (stands p q o l) → Ended p q
   unfolding GoodBy
   good-ended inside.No e g =
       ⊎-elim

@@ -15,6 +15,7 @@ use Rattle.reading.specs.Containers.{container}
 use Rattle.reading.specs.Reading.{angle, colon, noted}
 use Rattle.rooms.specs.declared.Parser.{Parser}
 use Rattle.rooms.specs.Standing.{Changed, Stepped}
+use Rattle.rooms.proofs.Changing.{changed-stepped}
 
 -- what a scan accepts lies within the line
 pub scan-within : (line : List ℕ) (to n : ℕ) → n < length (drop to line) → to ≤ length line → to + n + 1 ≤ length line
@@ -24,7 +25,7 @@ module _ (x : Sheet) (v : View) (h : Here) (p : Parser) (q o l : List ℕ) (r : 
   abbrev Does : (State → Turn) → Type 0
   Does f = Stepped p q o l r q′ o′ l′ f
 
-  same-marks : (k j : Marks) → k ≡ j → Does (container x v h k) → Does (container x v h j)
+  pub same-marks : (k j : Marks) → k ≡ j → Does (container x v h k) → Does (container x v h j)
   same-marks k j e s = subst (λ (y : Marks). Does (container x v h y)) e s
 
   pub angle-else : (f : Ahead) → f ≡ ahead.None → (k : Marks) → k ≡ plain str → Does (container x v h k) → Does (angle x v h f)
@@ -41,17 +42,14 @@ module _ (x : Sheet) (v : View) (h : Here) (p : Parser) (q o l : List ℕ) (r : 
 
 -- an accepted scan leaves the label room
 module _ (x : Sheet) (v : View) (h : Here) (p : Parser) (q o l : List ℕ) (r : Parser) (q′ : List ℕ) (room : p .labels ≤ length l) (n : ℕ) where
-  leaves : (f : State → Turn) → Changed p q o r q′ o f → Stepped p q o l r q′ o l f
-  leaves f c = record { same = c .same l; labels = omega (arith, c .labels, room) }
-
   pub angle-some : (f : Ahead) → f ≡ ahead.Some n → Changed p q o r q′ o (autolinked v h n) → Stepped p q o l r q′ o l (angle x v h f)
   unfolding angle
-  angle-some f e c = subst (λ (y : Ahead). Stepped p q o l r q′ o l (angle x v h y)) (sym e) (leaves (autolinked v h n) c)
+  angle-some f e c = subst (λ (y : Ahead). Stepped p q o l r q′ o l (angle x v h y)) (sym e) (changed-stepped p q o r q′ o (autolinked v h n) c l room)
 
   pub colon-some : (f : Ahead) → f ≡ ahead.Some n → Changed p q o r q′ o (named symbol v h n) → Stepped p q o l r q′ o l (colon x v h f)
   unfolding colon
-  colon-some f e c = subst (λ (y : Ahead). Stepped p q o l r q′ o l (colon x v h y)) (sym e) (leaves (named symbol v h n) c)
+  colon-some f e c = subst (λ (y : Ahead). Stepped p q o l r q′ o l (colon x v h y)) (sym e) (changed-stepped p q o r q′ o (named symbol v h n) c l room)
 
   pub noted-some : (f : Ahead) → f ≡ ahead.Some n → Changed p q o r q′ o (named footnote v h n) → Stepped p q o l r q′ o l (noted x v h f)
   unfolding noted
-  noted-some f e c = subst (λ (y : Ahead). Stepped p q o l r q′ o l (noted x v h y)) (sym e) (leaves (named footnote v h n) c)
+  noted-some f e c = subst (λ (y : Ahead). Stepped p q o l r q′ o l (noted x v h y)) (sym e) (changed-stepped p q o r q′ o (named footnote v h n) c l room)

@@ -25,7 +25,9 @@ use Rattle.rooms.specs.declared.Margin.{Margin}
 use Rattle.rooms.specs.declared.Span.{Span}
 use Rattle.rooms.specs.Standing.{viewed, here, staying, Changed, Stepped}
 use Rattle.verbatim.specs.Opened.{Dollars}
+use Rattle.rooms.proofs.Changing.{changed-stepped}
 use Rattle.outside.specs.Outside.{refusing, bracketing, Ended}
+use Rattle.outside.proofs.Ahead.{same-marks}
 
 -- the dollars that a run takes are those of the newest event
 pub dollars-ended : (p : Parser) (q : List ℕ) (at : ℕ) → Ended p q → Dollars (taken (p .last) at) (p .events) q × (taken (p .last) at ≤ at)
@@ -42,19 +44,16 @@ module _ (x : Sheet) (v : View) (h : Here) (p : Parser) (q o l : List ℕ) (r : 
   abbrev Does : (State → Turn) → Type 0
   Does f = Stepped p q o l r q′ o′ l′ f
 
-  same-marks : (k : Marks) → k ≡ plain str → Does (container x v h k) → Does (container x v h (plain str))
-  same-marks k e s = subst (λ (y : Marks). Does (container x v h y)) e s
-
   pub run-long : 255 < h .to - h .from → (k : Marks) → k ≡ plain str → Does (container x v h k) → Does (outside x v h roles.Backticks)
   unfolding outside
   run-long n k isk s =
-      let s = same-marks k isk s in
+      let s = same-marks x v h p q o l r q′ o′ l′ k (plain str) isk s in
       record { same = rw (lt-leb (h .to - h .from) 255 n, outside) (s .same); labels = s .labels }
 
   pub hyphen-one : h .to - h .from < 2 → (k : Marks) → k ≡ plain str → Does (container x v h k) → Does (outside x v h roles.Hyphens)
   unfolding outside
   hyphen-one n k isk s =
-      let s = same-marks k isk s in
+      let s = same-marks x v h p q o l r q′ o′ l′ k (plain str) isk s in
       record { same = rw (lt-ltb (h .to - h .from) 2 n, outside) (s .same); labels = s .labels }
 
   -- the role that a token has
@@ -82,7 +81,7 @@ module _ (x : Sheet) (v : View) (h : Here) (p : Parser) (q o l : List ℕ) (r : 
 
     pub as-paren : y ≡ roles.Paren → (k : Marks) → k ≡ plain str → Does (container x v h k) → Does (outside x v h y)
     unfolding outside
-    as-paren e k isk s = of-role y roles.Paren e (same-marks k isk s)
+    as-paren e k isk s = of-role y roles.Paren e (same-marks x v h p q o l r q′ o′ l′ k (plain str) isk s)
 
     pub as-other : (k : Marks) → y ≡ roles.Other k → Does (container x v h k) → Does (outside x v h y)
     unfolding outside
@@ -90,21 +89,18 @@ module _ (x : Sheet) (v : View) (h : Here) (p : Parser) (q o l : List ℕ) (r : 
 
 -- what leaves the label room
 module _ (x : Sheet) (m : Margin) (line : List ℕ) (h : Span) (p : Parser) (q o l : List ℕ) (r : Parser) (q′ : List ℕ) (room : p .labels ≤ length l) where
-  leaves : (f : State → Turn) → Changed p q o r q′ o f → Stepped p q o l r q′ o l f
-  leaves f c = record { same = c .same l; labels = omega (arith, c .labels, room) }
-
   pub run-opens : h .to - h .from ≤ 255 → Changed p q o r q′ o (opens-verbatim (viewed m line) (here h p))
       → Stepped p q o l r q′ o l (outside x (viewed m line) (here h p) roles.Backticks)
   unfolding outside
   run-opens n c =
-      let s = leaves (opens-verbatim (viewed m line) (here h p)) c in
+      let s = changed-stepped p q o r q′ o (opens-verbatim (viewed m line) (here h p)) c l room in
       record { same = rw (le-leb (h .to - h .from) 255 n, outside) (s .same); labels = s .labels }
 
   pub hyphens-many : 2 ≤ h .to - h .from → Changed p q o r q′ o (staying p (puts (dashes (dashesOf (h .to - h .from)) (m .base + h .from)) no-str))
       → Stepped p q o l r q′ o l (outside x (viewed m line) (here h p) roles.Hyphens)
   unfolding outside
   hyphens-many n c =
-      let s = leaves (staying p (puts (dashes (dashesOf (h .to - h .from)) (m .base + h .from)) no-str)) c in
+      let s = changed-stepped p q o r q′ o (staying p (puts (dashes (dashesOf (h .to - h .from)) (m .base + h .from)) no-str)) c l room in
       record { same = rw (le-ltb (h .to - h .from) 2 n, outside) (s .same); labels = s .labels }
 
   pub as-periods : (y : Role) → y ≡ roles.Periods → Changed p q o r q′ o (staying p (dots (viewed m line) (h .from) (h .to - h .from)))
@@ -112,7 +108,7 @@ module _ (x : Sheet) (m : Margin) (line : List ℕ) (h : Span) (p : Parser) (q o
   unfolding outside
   as-periods y e c =
       subst (λ (w : Role). Stepped p q o l r q′ o l (outside x (viewed m line) (here h p) w)) (sym e)
-      (leaves (staying p (dots (viewed m line) (h .from) (h .to - h .from))) c)
+      (changed-stepped p q o r q′ o (staying p (dots (viewed m line) (h .from) (h .to - h .from))) c l room)
 
 -- a bare brace
 pub as-brace : (x : Sheet) (m : Margin) (line : List ℕ) (h : Span) (p : Parser) (q o l : List ℕ) (r : Parser) → p .labels ≤ length l → r ≡ refusing (m .base + h .from) p

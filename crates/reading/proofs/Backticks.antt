@@ -29,9 +29,8 @@ use Rattle.reading.specs.declared.Inside.the-variants as inside
 use Rattle.reading.specs.Events.{Home, event, nowhere, in-text, becomes, shorter, exit-of, enter, str, raw-format}
 use Rattle.reading.specs.Machine.{View, Rules, State, Here, amend, amend-last, put}
 use Rattle.reading.specs.Tokens.{role-of, is-format}
-use Rattle.reading.specs.Verbatim.{flagged, taken, opened-as, opens-verbatim, closes, kept, cut, nothing, format-ahead}
-use Rattle.reading.specs.Verbatim.{formatted, closed-with, closes-verbatim, all-blank, bytes-of, skips, content, blank-content, in-verbatim}
-use Rattle.reading.specs.Verbatim.{span-of, drops-at}
+use Rattle.reading.specs.Verbatim.{flagged, taken, opened-as, opens-verbatim, closes, kept, cut, nothing, format-ahead, formatted, closed-with}
+use Rattle.reading.specs.Verbatim.{closes-verbatim, all-blank, bytes-of, skips, content, blank-content, in-verbatim, span-of, drops-at}
 use Rattle.reading.specs.Walked.{walk-by, Of}
 use Rattle.reading.proofs.Choose.{choose, choose₂}
 use Rattle.reading.proofs.Matching.{Wraps, wraps-match, Parts}
@@ -133,7 +132,7 @@ blank-at [] j e h = absurd (omega arith)
 blank-at (b ∷ l) zero e h = and-eq-true-iff (blank b) (all-blank l) .0 e .0
 blank-at (b ∷ l) (suc j) e h = blank-at l j (and-eq-true-iff (blank b) (all-blank l) .0 e .1) (omega arith)
 
-pub drop-amend : (f : Event → Event) (i n : ℕ) (q : List Event) → i < n → drop n (amend f i q) ≡ drop n q
+drop-amend : (f : Event → Event) (i n : ℕ) (q : List Event) → i < n → drop n (amend f i q) ≡ drop n q
 unfolding amend
 drop-amend f i n [] l = refl
 drop-amend f i zero (e ∷ q) l = absurd (omega arith)

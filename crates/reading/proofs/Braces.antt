@@ -33,9 +33,10 @@ use Rattle.reading.specs.declared.DelimEventKind.the-variants as makes
 use Rattle.reading.specs.Events.{str}
 use Rattle.reading.specs.Machine.{View, Rules, Sheet, State, Turn, Here, with-openers}
 use Rattle.reading.specs.Tokens.{role-of, is-caret, closing-of, plain, bracket}
-use Rattle.reading.specs.Verbatim.{closes, closed-with, all-blank, bytes-of, skips, blank-content, in-verbatim, moved-on, ended-at}
-use Rattle.reading.specs.Containers.{Along, along, by-itself, seek, may-close, takes, span-with, closes-span, close-as, may-open, opens-or, tried, container}
-use Rattle.reading.specs.Reading.{angle, colon, noted, bracketed, outside, by-place, here-at, on-token, step, steps, begun, line, lines, start}
+use Rattle.reading.specs.Verbatim.{closes, closed-with, all-blank, bytes-of, skips, blank-content, in-verbatim, moved-on}
+use Rattle.reading.specs.Containers.{Along, along, by-itself, seek, may-close, takes, span-with, closes-span, close-as, may-open, opens-or}
+use Rattle.reading.specs.Containers.{tried, container}
+use Rattle.reading.specs.Reading.{angle, colon, noted, bracketed, outside, by-place, here-at, on-token, step, steps, begun, line, start}
 use Rattle.reading.proofs.Choose.{choose}
 use Rattle.reading.proofs.Stepping.{met, either}
 use Rattle.reading.proofs.Links.{links-step}
@@ -145,7 +146,7 @@ module _ (x : Sheet) (v : View) where
   on-spared a (next.Some t) c = by-spared (a .state) (here-at (a .cursor) t c) t (a .state .inside) refl
 
 -- a step that refuses is outside verbatim
-pub brace-step : (x : Sheet) (v : View) (a : Turn) → a .state .refused ≡ refused.No → (p : Place) → step x v a .state .refused ≡ refused.At p
+brace-step : (x : Sheet) (v : View) (a : Turn) → a .state .refused ≡ refused.No → (p : Place) → step x v a .state .refused ≡ refused.At p
     → step x v a .state .inside ≡ inside.No
 brace-step x v a un p at =
     ⊎-elim (λ (e : Kept (a .state) (step x v a)). absurd (met p (sym at ∙ e ∙ un))) (λ (e : step x v a .state .inside ≡ inside.No). e)
@@ -155,34 +156,24 @@ brace-step x v a un p at =
 abbrev pub Outside : State → Type 0
 Outside s = (p : Place) → s .refused ≡ refused.At p → s .inside ≡ inside.No
 
-pub steps-outside : (n : ℕ) (x : Sheet) (v : View) (a : Turn) → Outside (a .state) → Outside (steps n x v a .state)
+steps-outside : (n : ℕ) (x : Sheet) (v : View) (a : Turn) → Outside (a .state) → Outside (steps n x v a .state)
 unfolding steps
 steps-outside zero x v a o = o
 steps-outside (suc n) x v a o =
     either (λ (b : Turn). Outside (b .state)) (a .state .refused) _ _ (λ p e. o) (λ e. steps-outside n x v (step x v a) (brace-step x v a e))
 
-pub begun-outside : (x : Sheet) (v : View) (s : State) → Outside s → Outside (begun x v s .state)
+begun-outside : (x : Sheet) (v : View) (s : State) → Outside s → Outside (begun x v s .state)
 unfolding moved-on
 begun-outside x v s o p e = ap moved-on (o p e)
 
 pub line-outside : (x : Sheet) (v : View) (s : State) → Outside s → Outside (line x v s)
 line-outside x v s o = steps-outside (length (v .bytes)) x v (begun x v s) (begun-outside x v s o)
 
-pub lines-outside : (x : Sheet) (vs : List View) (s : State) → Outside s → Outside (lines x vs s)
-unfolding lines
-lines-outside x [] s o = o
-lines-outside x (v ∷ vs) s o = lines-outside x vs (line x v s) (line-outside x v s o)
-
 pub start-outside : Outside start
 start-outside p e = refl
 
--- a refused sheet has no verbatim open that the end could close
-pub ended-refused-same : (b : ℕ) (s : State) (p : Place) → Outside s → s .refused ≡ refused.At p → ended-at b (s .inside) s ≡ s
-unfolding ended-at
-ended-refused-same b s p o e = ap (λ (w : Inside). ended-at b w s) (o p e)
-
 -- a link for each step at most
-pub links-steps : (n : ℕ) (x : Sheet) (v : View) (a : Turn) → steps n x v a .state .links .0 ≤ n + a .state .links .0
+links-steps : (n : ℕ) (x : Sheet) (v : View) (a : Turn) → steps n x v a .state .links .0 ≤ n + a .state .links .0
 unfolding steps
 links-steps zero x v a = omega arith
 links-steps (suc n) x v a =

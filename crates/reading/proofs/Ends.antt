@@ -3,10 +3,10 @@ use Prim.Native.Nat.{ℕ, zero, suc, _+_, _-_, _≤_, _<_}
 use mathlib.Core.Path.{_≡_, refl, ap, _∙_}
 use mathlib.Core.List.{List, [], _∷_}
 use native.Mathlib.Omega.{arith}
-use lib.Dec.{eqb}
-use lib.ListN.{length, getD, take, length-append}
-use lib.Seq.{getD-at}
 use borrow.Author.Tests.{eqb-true}
+use lib.Dec.{eqb}
+use lib.ListN.{length, getD, length-append}
+use lib.Seq.{getD-at}
 use Rattle.reading.specs.declared.Event.{Event}
 use Rattle.reading.specs.declared.Last.{Last}
 use Rattle.reading.specs.declared.Opener.{Opener}
@@ -56,14 +56,7 @@ ends-wide l q n d h s = rw (ends-at (l .dollars) (l .end .0) q n d h s) (h .wide
 pub ends-some : (m at : ℕ) (q : List Event) → Ends m at q → 0 < length q
 ends-some m at q h = omega (arith, ap (λ (r : List Event). length r) (h .parted), length-append (h .front) (h .it ∷ []))
 
--- a change at the i-th: the events before it stay, as all do where there is no i-th
-pub take-amend : (f : Event → Event) (i n : ℕ) (q : List Event) → n ≤ i → take n (amend f i q) ≡ take n q
-unfolding amend
-take-amend f i zero q l = refl
-take-amend f i (suc n) [] l = refl
-take-amend f zero (suc n) (e ∷ q) l = absurd (omega arith)
-take-amend f (suc i) (suc n) (e ∷ q) l = ap (λ (r : List Event). e ∷ r) (take-amend f i n q (omega arith))
-
+-- where there is no i-th event nothing changes
 pub amend-out : (f : Event → Event) (i : ℕ) (q : List Event) → length q ≤ i → amend f i q ≡ q
 unfolding amend
 amend-out f i [] l = refl

@@ -30,15 +30,16 @@ use Rattle.reading.specs.Events.{str}
 use Rattle.reading.specs.Machine.{View, Rules, Sheet, State, Turn, Here, with-openers}
 use Rattle.reading.specs.Tokens.{role-of, is-caret, closing-of, plain, bracket}
 use Rattle.reading.specs.Verbatim.{closes, closed-with, all-blank, bytes-of, skips, blank-content, in-verbatim}
-use Rattle.reading.specs.Containers.{Along, along, by-itself, seek, may-close, takes, span-with, closes-span, close-as, may-open, opens-or, tried, container}
+use Rattle.reading.specs.Containers.{Along, along, by-itself, seek, may-close, takes, span-with, closes-span, close-as, may-open, opens-or}
+use Rattle.reading.specs.Containers.{tried, container}
 use Rattle.reading.specs.Reading.{angle, colon, noted, bracketed, outside, by-place, here-at, on-token, step}
 use Rattle.reading.proofs.Choose.{choose}
 
 -- at most one link more than of a state
-abbrev pub Once : State → State → Type 0
+abbrev Once : State → State → Type 0
 Once s t = t .links .0 ≤ suc (s .links .0)
 
-abbrev pub Turned : State → Turn → Type 0
+abbrev Turned : State → Turn → Type 0
 Turned s b = Once s (b .state)
 
 module _ (v : View) (h : Here) (s : State) where
@@ -54,7 +55,7 @@ module _ (v : View) (h : Here) (s : State) where
       choose (λ (b : Turn). b .state .links ≡ s .links) (w .seen) _ _ (λ e. refl)
       (λ e. choose (λ (t : State). t .links ≡ s .links) (skips w (peekOf (v .bytes) (h .cursor) .token)) _ _ (λ y. refl) (λ y. refl))
 
-  pub in-links : (r : Rules) (t : Token) (w : Verbatim) → in-verbatim r v h t w s .state .links ≡ s .links
+  in-links : (r : Rules) (t : Token) (w : Verbatim) → in-verbatim r v h t w s .state .links ≡ s .links
   unfolding in-verbatim
   in-links r t w =
       choose (λ (b : Turn). b .state .links ≡ s .links) (closes w h t) _ _ (λ e. closed-links _ w _)
@@ -91,7 +92,7 @@ module _ (x : Sheet) (v : View) where
     tried-links h m (o ∷ os) =
         choose (Turned s) (may-close v h s o) _ _ (λ e. close-links h o (closing-of (o .sort)) (with-openers os s)) (λ e. alone-links h m)
 
-    pub container-links : (h : Here) (m : Marks) → Turned s (container x v h m s)
+    container-links : (h : Here) (m : Marks) → Turned s (container x v h m s)
     container-links h m = tried-links h m (seek (m .closes) (s .openers))
 
     angle-links : (h : Here) (f : Ahead) → Turned s (angle x v h f s)
@@ -115,7 +116,7 @@ module _ (x : Sheet) (v : View) where
     bracketed-links h p (next.Some t) =
         choose (Turned s) (is-caret (role-of (t .kind))) _ _ (λ e. noted-links _ _) (λ e. container-links _ bracket)
 
-    pub outside-links : (h : Here) (r : Role) → Turned s (outside x v h r s)
+    outside-links : (h : Here) (r : Role) → Turned s (outside x v h r s)
     unfolding outside
     outside-links h role.Backticks = choose (Turned s) (leb (h .to - h .from) 255) _ _ (λ e. omega arith) (λ e. container-links h (plain str))
     outside-links h role.Brace = omega arith

@@ -23,27 +23,23 @@ use Rattle.reading.proofs.Queue.{walks, Inner, inner-within}
 use Rattle.reading.proofs.Good.{GoodBy}
 
 -- more events
-pub names-more : (d : DelimEventKind) (o : Opener) (n m : ℕ) → n ≤ m → Names d o n → Names d o m
+names-more : (d : DelimEventKind) (o : Opener) (n m : ℕ) → n ≤ m → Names d o n → Names d o m
 unfolding Names
 names-more (makes.Pair p) o n m l h = omega arith
 names-more (makes.Span i) o n m l h = omega arith
 names-more (makes.Link t) o n m l h = (h .0, omega (arith, h .1))
 
-pub named-more : (os : List Opener) (n m : ℕ) → n ≤ m → Named os n → Named os m
+named-more : (os : List Opener) (n m : ℕ) → n ≤ m → Named os n → Named os m
 unfolding Named
 named-more [] n m l h = tt
 named-more (o ∷ os) n m l h = (names-more (closing-of (o .sort)) o n m l (h .0), named-more os n m l (h .1))
 
 -- fewer openers
-pub named-drop : (o : Opener) (os : List Opener) (n : ℕ) → Named (o ∷ os) n → Named os n
-unfolding Named
-named-drop o os n h = h .1
-
 pub named-seek : (c : ℕ) (os : List Opener) (n : ℕ) → Named os n → Named (seek c os) n
-unfolding seek
+unfolding seek Named
 named-seek c [] n h = h
 named-seek c (o ∷ os) n h =
-    choose (λ (l : List Opener). Named l n) (eqb (closed-by (o .sort)) c) _ _ (λ e. h) (λ e. named-seek c os n (named-drop o os n h))
+    choose (λ (l : List Opener). Named l n) (eqb (closed-by (o .sort)) c) _ _ (λ e. h) (λ e. named-seek c os n (h .1))
 
 -- where the queue parts at each opener
 top-named : (w : List Walk) (os : List Opener) → Parts w os → Named os (length w)
@@ -68,11 +64,11 @@ top-named w (o ∷ os) p = go (closing-of (o .sort)) p (λ v q. top-named v os q
           named-more os (length (t .pre)) (length w) (omega (arith, long)) (below (t .pre) (t .rest)),
         )
 
-pub parts-named : (q : List Event) (os : List Opener) → Parts (walks q) os → Named os (length q)
+parts-named : (q : List Event) (os : List Opener) → Parts (walks q) os → Named os (length q)
 parts-named q os p = subst (λ (n : ℕ). Named os n) (length-map q walk-of) (top-named (walks q) os p)
 
 -- inside a verbatim they name events before its enter
-pub inner-named : (w : Verbatim) (q : List Event) (os : List Opener) → Inner w q os → Named os (length q)
+inner-named : (w : Verbatim) (q : List Event) (os : List Opener) → Inner w q os → Named os (length q)
 inner-named w q os h =
     named-more os (length (h .pre)) (length q) (omega (arith, inner-within w q os h, h .place)) (parts-named (h .pre) os (h .rest))
 

@@ -1,12 +1,12 @@
 -- The laws of `rows` and `pile`, for any kind of record: their length, one of their records, fewer of them, and what two rooms share.
 -- And of `sets`, a run of stores: what it leaves before its start, and what it leaves where it stored.
-use Prim.Native.Nat.{ℕ, zero, suc, _+_, _-_, _≤_, _<_}
+use Prim.Native.Nat.{ℕ, zero, suc, _+_, _≤_, _<_}
 use mathlib.Core.Path.{_≡_, refl, sym, ap, _∙_}
 use mathlib.Core.List.{List, [], _∷_, _++_}
 use mathlib.Core.Logic.{⊎-elim}
 use native.Mathlib.Nat.{eq-or-lt-of-le, le-of-suc-le-suc, add-zero, add-suc, suc-add}
 use native.Mathlib.Omega.{arith}
-use lib.ListN.{length, getD, take, drop, set, length-append, length-set, List·getD-append}
+use lib.ListN.{length, getD, take, set, length-append, length-set, List·getD-append}
 use lib.Seq.{sets, getD-set-same, getD-set-other, getD-at, take-append-le, take-all}
 use Rattle.rooms.specs.Rows.{rows, pile}
 
@@ -57,16 +57,6 @@ module _ {R : Type 0} (read : List ℕ → ℕ → R) where
       (λ (l : m < suc n).
       rows-cut m n room (omega arith)
       ∙ sym (take-append-le m (rows read n room) _ (omega (arith, rows-length n room))))
-      (eq-or-lt-of-le h)
-
-  -- the newest record of a stack, and the others
-  pub pile-cut : (m n : ℕ) (room : List ℕ) → m ≤ n → pile read m room ≡ drop (n - m) (pile read n room)
-  unfolding pile
-  pile-cut m zero room h = let e : m ≡ 0 = omega arith in rw e
-  pile-cut m (suc n) room h =
-      ⊎-elim
-      (λ (e : m ≡ suc n). let z : suc n - m ≡ 0 = omega arith in rw (z, e))
-      (λ (l : m < suc n). let z : suc n - m ≡ suc (n - m) = omega arith in rw z (pile-cut m n room (omega arith)))
       (eq-or-lt-of-le h)
 
 -- what stands before the start stays

@@ -47,12 +47,12 @@ module _ (room : List ℕ) (n : ℕ) (o : Opener) (fits : n * 4 + 4 ≤ length r
 
 module _ (room : List ℕ) (mark : ℕ) where
   -- the newest opener is closed by the mark
-  pub seek-hit : (i : ℕ) → closed-by (sort-at (getD room (i * 4) 0)) ≡ mark → seek mark (opens (suc i) room) ≡ openerAt room i ∷ opens i room
+  seek-hit : (i : ℕ) → closed-by (sort-at (getD room (i * 4) 0)) ≡ mark → seek mark (opens (suc i) room) ≡ openerAt room i ∷ opens i room
   unfolding pile seek
   seek-hit i e = rw (eq-eqb _ _ e, seek)
 
   -- the newest opener is closed by another
-  pub seek-skip : (i : ℕ) → (closed-by (sort-at (getD room (i * 4) 0)) ≡ mark → ⊥) → seek mark (opens (suc i) room) ≡ seek mark (opens i room)
+  seek-skip : (i : ℕ) → (closed-by (sort-at (getD room (i * 4) 0)) ≡ mark → ⊥) → seek mark (opens (suc i) room) ≡ seek mark (opens i room)
   unfolding pile seek
   seek-skip i ne = rw (ne-eqb _ _ ne, seek)
 

@@ -1,5 +1,5 @@
 -- The laws of the numbers of sorts, and of closing marks.
-use Prim.Native.Nat.{ℕ, zero, suc, _<_, _≤_}
+use Prim.Native.Nat.{ℕ, zero, suc, _≤_}
 use mathlib.Core.Path.{_≡_, refl}
 use mathlib.Core.List.{List, [], _∷_}
 use mathlib.Core.Bool.{false}
@@ -9,7 +9,6 @@ use lib.ListN.{List·getD-eq-default}
 use Rattle.classes.specs.Classes.{among}
 use Rattle.reading.specs.declared.Sort.{Sort}
 use Rattle.reading.specs.declared.Sort.the-variants as sort
-use Rattle.reading.specs.Tokens.{closed-by}
 use Rattle.tables.specs.Tables.{sorts, number, sort-at}
 
 -- a sort is that of its number
@@ -35,28 +34,6 @@ sort-number sort.ReferenceImage = refl
 sort-number sort.InlineLink = refl
 sort-number sort.InlineImage = refl
 
-pub number-small : (s : Sort) → number s < 19
-unfolding number
-number-small sort.Span = omega arith
-number-small sort.Image = omega arith
-number-small sort.Strong = omega arith
-number-small sort.BraceStrong = omega arith
-number-small sort.Emphasis = omega arith
-number-small sort.BraceEmphasis = omega arith
-number-small sort.Superscript = omega arith
-number-small sort.BraceSuperscript = omega arith
-number-small sort.Subscript = omega arith
-number-small sort.BraceSubscript = omega arith
-number-small sort.Mark = omega arith
-number-small sort.Delete = omega arith
-number-small sort.Insert = omega arith
-number-small sort.SingleQuoted = omega arith
-number-small sort.DoubleQuoted = omega arith
-number-small sort.ReferenceLink = omega arith
-number-small sort.ReferenceImage = omega arith
-number-small sort.InlineLink = omega arith
-number-small sort.InlineImage = omega arith
-
 -- a number that is none of the first k
 abbrev pub Past : ℕ → ℕ → Type 0
 Past zero n = Unit {0}
@@ -70,29 +47,6 @@ past (suc k) n h = omega (arith, past k n (h .0), h .1)
 pub sort-last : (n : ℕ) → Past 18 n → sort-at n ≡ sort.InlineImage
 unfolding sorts sort-at
 sort-last n h = List·getD-eq-default sorts sort.InlineImage (past 18 n h)
-
--- a mark 0 closes nothing
-pub closed-some : (s : Sort) → closed-by s ≡ 0 → ⊥
-unfolding closed-by
-closed-some sort.Span e = omega arith
-closed-some sort.Image e = omega arith
-closed-some sort.Strong e = omega arith
-closed-some sort.BraceStrong e = omega arith
-closed-some sort.Emphasis e = omega arith
-closed-some sort.BraceEmphasis e = omega arith
-closed-some sort.Superscript e = omega arith
-closed-some sort.BraceSuperscript e = omega arith
-closed-some sort.Subscript e = omega arith
-closed-some sort.BraceSubscript e = omega arith
-closed-some sort.Mark e = omega arith
-closed-some sort.Delete e = omega arith
-closed-some sort.Insert e = omega arith
-closed-some sort.SingleQuoted e = omega arith
-closed-some sort.DoubleQuoted e = omega arith
-closed-some sort.ReferenceLink e = omega arith
-closed-some sort.ReferenceImage e = omega arith
-closed-some sort.InlineLink e = omega arith
-closed-some sort.InlineImage e = omega arith
 
 -- a number that is none of some keys, as the last arm of a `match` on it knows: it is not among them
 abbrev pub Missed : Type 0 → List ℕ → ℕ → Type 0
