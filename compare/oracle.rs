@@ -134,13 +134,21 @@ pub fn periods(len: usize) -> (usize, usize) {
     (ellipses, rest)
 }
 
-/// What a sheet gives: events of seven numbers, the label room, and the first bare brace outside verbatim.
+/// What a sheet gives: events of seven numbers, the label room, how many links closed, and the first bare brace outside verbatim.
 #[allow(dead_code)]
 #[derive(Clone, Debug, Default, PartialEq)]
 pub struct Sheet {
     pub events: Vec<[u32; 7]>,
     pub labels: Vec<u8>,
+    pub links: usize,
     pub brace: Option<usize>,
+}
+
+/// What the Rust says of a sheet: what it gives, and where each label in the label room ends.
+#[allow(dead_code)]
+pub struct Said {
+    pub sheet: Sheet,
+    pub ends: Vec<usize>,
 }
 
 /// The place of a part of the text.
@@ -154,13 +162,14 @@ pub fn part(text: &str, s: &str) -> [u32; 3] {
 #[macro_export]
 macro_rules! reads {
     ($name:ident, $module:ident) => {
-        pub fn $name(text: &str, lines: &[(usize, usize)]) -> $crate::oracle::Sheet {
+        pub fn $name(text: &str, lines: &[(usize, usize)]) -> $crate::oracle::Said {
             use std::borrow::Cow;
-            use $crate::oracle::{part, Sheet};
+            use $crate::oracle::{part, Said, Sheet};
             use $crate::$module::{Atom, Container, EventKind, Parser, QuoteType};
             let mut sheet = Sheet::default();
+            let mut ends = Vec::new();
             if lines.is_empty() {
-                return sheet;
+                return Said { sheet, ends };
             }
             let mut parser = Parser::new(text);
             for (i, &(start, end)) in lines.iter().enumerate() {
@@ -174,10 +183,12 @@ macro_rules! reads {
                     Cow::Owned(s) => {
                         let start = sheet.labels.len() as u32;
                         sheet.labels.extend(s.as_bytes());
+                        ends.push(sheet.labels.len());
                         homes.push([2, start, sheet.labels.len() as u32]);
                     }
                 }
             }
+            sheet.links = homes.len();
             let container = |c: Container| match c {
                 Container::Span => (0, [0; 3], 0),
                 Container::Subscript => (1, [0; 3], 0),
@@ -226,7 +237,7 @@ macro_rules! reads {
                 sheet.events.push([kind, e.span.start as u32, e.span.end as u32, home[0], home[1], home[2], link]);
             }
             sheet.brace = Some($crate::attr::asked()).filter(|&p| p != 0).map(|p| p - text.as_ptr() as usize);
-            sheet
+            Said { sheet, ends }
         }
     };
 }

@@ -1,5 +1,5 @@
-//! Compares the plain parser of `compare/steps` with the Rust (`lex.rs` and `inline.rs` of the documents, as they stand), and tests the laws of
-//! its list on any bytes in both readings.
+//! Compares the parser, whose crates are made into Rust, with the Rust (`lex.rs` and `inline.rs` of the documents, as they stand), and tests the
+//! laws of its list on any bytes in both readings.
 //!
 //! `plain [N [SEED]]`: with N random sheets (5 million if it is left out), other ones for another seed. Status 1 at the first difference,
 //! with the smallest sheet that shows it.
@@ -69,7 +69,7 @@ mod lex {
 }
 type CowStr<'s> = std::borrow::Cow<'s, str>;
 
-/// The Rattle text.
+/// The Rattle text: a module for each crate.
 #[allow(warnings)]
 mod rattle {
     include!(env!("OURS_RS"));

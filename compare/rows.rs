@@ -87,7 +87,7 @@ pub fn print(seed: u64) {
             continue;
         };
         let reading = printed as u32 % 2;
-        let sheet = oracle(characters, &input.lines, reading);
+        let sheet = oracle(characters, &input.lines, reading).sheet;
         if r.next() % one_in(&sheet) != 0 {
             continue;
         }

@@ -1,8 +1,10 @@
-//! Sheets: the plain parser against the Rust, and the laws of its list.
+//! Sheets: the parser against the Rust, and the laws of its list.
 
-use crate::oracle::Sheet;
+use crate::oracle::{Said, Sheet};
 use crate::random::{strings, Random, TELLING};
-use crate::rattle::parse::{drain, parse, Brace};
+use crate::rattle::drain::{drain, Drained};
+use crate::rattle::inline::parse;
+use crate::rattle::reading::Refused;
 use std::panic::{catch_unwind, AssertUnwindSafe};
 use std::time::Instant;
 
@@ -87,7 +89,10 @@ impl Input {
     }
 }
 
-/// Rooms that are lent again and again, as full of old numbers as they come.
+/// What stands in a room that is lent.
+const OLD: u32 = 0xaaaa_aaaa;
+
+/// Rooms that are lent again and again.
 #[derive(Default)]
 struct Rooms {
     queue: Vec<u32>,
@@ -98,10 +103,11 @@ struct Rooms {
     ends: Vec<usize>,
 }
 
-/// What ours gives; `fits` says whether all labels did.
+/// What ours gives: the sheet, whether all labels fitted, and how many records the queue holds.
 struct Answer {
     sheet: Sheet,
     fits: bool,
+    queued: usize,
 }
 
 /// Ours, with N + 1 queue records, N opener records, N + 1 event records and a label room of `room` bytes. A panic is an answer too.
@@ -113,33 +119,43 @@ fn ours(rooms: &mut Rooms, input: &Input, reading: u32, room: usize) -> Result<A
         rooms.starts.push(start);
         rooms.ends.push(end);
     }
-    for (old, len) in [(&mut rooms.queue, 8 * (n + 1)), (&mut rooms.openers, 4 * n), (&mut rooms.events, 7 * (n + 1))] {
+    for (old, len) in [(&mut rooms.queue, 8 * (n + 1)), (&mut rooms.openers, 4 * n)] {
         old.clear();
-        old.resize(len, 0xaaaa_aaaa);
+        old.resize(len, OLD);
     }
     rooms.labels.clear();
-    rooms.labels.resize(room, 0xaa);
+    rooms.labels.resize(room, OLD as u8);
     let run = catch_unwind(AssertUnwindSafe(|| {
-        let p = parse(&input.text, &rooms.starts, &rooms.ends, reading, &mut rooms.queue, &mut rooms.openers, &mut rooms.labels);
-        let n = if matches!(p.brace, Brace::None) { drain(&rooms.queue, p.queue, &mut rooms.events) } else { 0 };
-        (p, n)
+        parse(&input.text, &rooms.starts, &rooms.ends, reading, &mut rooms.queue, &mut rooms.openers, &mut rooms.labels)
     }));
-    let Ok((p, count)) = run else {
-        return Err("it panics".to_string());
+    let p = run.map_err(|_| "it panics")?;
+    let mut answer = Answer { sheet: Sheet::default(), fits: p.fits, queued: p.events };
+    if let Refused::At(place) = p.refused {
+        answer.sheet.brace = Some(place.0 as usize);
+        return Ok(answer);
+    }
+    let Some(count) = handed_out(rooms, p.events, 7 * (n + 1))? else {
+        return Err(format!("no room for the events of {n} bytes"));
     };
-    let mut sheet = Sheet::default();
-    if let Brace::At(place) = p.brace {
-        sheet.brace = Some(place.0 as usize);
-        return Ok(Answer { sheet, fits: p.built.fits });
-    }
-    if 7 * count > rooms.events.len() {
-        return Err(format!("{count} events of {n} bytes"));
-    }
     for e in rooms.events[..7 * count].chunks(7) {
-        sheet.events.push(e.try_into().expect("seven numbers"));
+        answer.sheet.events.push(e.try_into().expect("seven numbers"));
     }
-    sheet.labels.extend(&rooms.labels[..p.built.used]);
-    Ok(Answer { sheet, fits: p.built.fits })
+    answer.sheet.labels.extend(&rooms.labels[..p.labels]);
+    answer.sheet.links = p.links.0 as usize;
+    Ok(answer)
+}
+
+/// The events of the queue, in an event room of so many numbers; none if it is full.
+fn handed_out(rooms: &mut Rooms, queued: usize, room: usize) -> Result<Option<usize>, String> {
+    rooms.events.clear();
+    rooms.events.resize(room, OLD);
+    let run = catch_unwind(AssertUnwindSafe(|| drain(&rooms.queue, queued, &mut rooms.events)));
+    match run.map_err(|_| "draining panics")? {
+        Drained::All(count) if 7 * count > room => Err(format!("{count} events in a room of {room} numbers")),
+        Drained::All(count) if rooms.events[7 * count..].iter().any(|&x| x != OLD) => Err(format!("written behind {count} events")),
+        Drained::All(count) => Ok(Some(count)),
+        Drained::Full => Ok(None),
+    }
 }
 
 /// The blanks that the verbatim rule drops from a verbatim of the list: told from text, lines, reading and the content's ends, with a
@@ -249,7 +265,7 @@ fn broken(input: &Input, reading: u32, events: &[[u32; 7]]) -> Option<String> {
     None
 }
 
-/// How many sheets were compared.
+/// How many sheets were compared, and of what sort their lists are.
 #[derive(Default)]
 struct Counts {
     compared: u64,
@@ -257,10 +273,30 @@ struct Counts {
     laws: u64,
     links: u64,
     built: u64,
+    full: u64,
+    deep: u64,
+    over: u64,
+}
+
+/// How deep a list goes.
+fn depth(events: &[[u32; 7]]) -> usize {
+    let mut open = 0;
+    let mut deepest = 0;
+    for e in events {
+        open = (open + usize::from((33..=48).contains(&e[0]))).saturating_sub(usize::from(e[0] > 64));
+        deepest = deepest.max(open);
+    }
+    deepest
+}
+
+/// Whether a math's dollars stand on a line, and its backticks on the next.
+fn math_over(input: &Input, events: &[[u32; 7]]) -> bool {
+    let over = |e: &[u32; 7]| input.lines.iter().any(|l| (e[1] as usize) < l.1 && l.1 < e[2] as usize);
+    events.iter().any(|e| (42..=43).contains(&e[0]) && over(e))
 }
 
 /// The Rust's answer in a reading.
-pub fn oracle(text: &str, lines: &[(usize, usize)], reading: u32) -> Sheet {
+pub fn oracle(text: &str, lines: &[(usize, usize)], reading: u32) -> Said {
     if reading == 0 {
         theirs(text, lines)
     } else {
@@ -268,27 +304,49 @@ pub fn oracle(text: &str, lines: &[(usize, usize)], reading: u32) -> Sheet {
     }
 }
 
-/// A label room that is too short: a label that ends behind it has no home, and all else is as before.
-fn check_short(rooms: &mut Rooms, input: &Input, reading: u32, expected: &Sheet, room: usize) -> Result<(), String> {
+/// Event rooms that hold all events and no more, all but one (a number is missing), and half of them: they get as many from the front as they
+/// hold, and the rest stays as it was.
+fn check_full(rooms: &mut Rooms, queued: usize, events: &[[u32; 7]], counts: &mut Counts) -> Result<(), String> {
+    let n = events.len();
+    for room in [7 * n, (7 * n).saturating_sub(1), 7 * (n / 2)] {
+        let answer = handed_out(rooms, queued, room)?;
+        let held = (room / 7).min(n);
+        let whole = answer == (held == n).then_some(n);
+        let (front, rest) = rooms.events.split_at(7 * held);
+        if !whole || front != events[..held].as_flattened() || rest.iter().any(|&x| x != OLD) {
+            return Err(format!("an event room of {room} numbers for {n} events: {answer:?}, {:?}", rooms.events));
+        }
+        counts.full += u64::from(answer.is_none());
+    }
+    Ok(())
+}
+
+/// A label room that is too short: a label that ends behind it has no home and is not counted, and all else is as before.
+fn check_short(rooms: &mut Rooms, input: &Input, reading: u32, said: &Said, room: usize) -> Result<(), String> {
     let answer = ours(rooms, input, reading, room)?;
-    let mut events = expected.events.clone();
-    for e in &mut events {
+    let mut expected = said.sheet.clone();
+    for e in &mut expected.events {
         if e[3] == 2 && e[5] as usize > room {
             e[3..6].fill(0);
         }
     }
-    if answer.fits || answer.sheet.events != events {
-        return Err(format!("a label room of {room}: expected {events:?}\nours {:?}, labels fit {}", answer.sheet.events, answer.fits));
+    expected.labels.truncate(said.ends.iter().copied().filter(|&end| end <= room).max().unwrap_or(0));
+    if answer.fits || answer.sheet != expected {
+        return Err(format!("a label room of {room}: expected {expected:?}\nours {:?}, labels fit {}", answer.sheet, answer.fits));
     }
     Ok(())
 }
 
 /// One sheet in one reading: against the Rust where it is of characters, and by the laws.
 fn check(rooms: &mut Rooms, input: &Input, reading: u32, counts: &mut Counts) -> Result<(), String> {
-    let expected = input.characters().map(|text| oracle(text, &input.lines, reading));
-    let room = expected.as_ref().map_or(4096, |e| e.labels.len());
+    let said = input.characters().map(|text| oracle(text, &input.lines, reading));
+    let room = said.as_ref().map_or(4096, |s| s.sheet.labels.len());
     let answer = ours(rooms, input, reading, room)?;
-    if let Some(expected) = &expected {
+    if answer.sheet.brace.is_none() {
+        check_full(rooms, answer.queued, &answer.sheet.events, counts)?;
+    }
+    if let Some(said) = &said {
+        let expected = &said.sheet;
         counts.compared += 1;
         if expected.brace != answer.sheet.brace {
             return Err(format!("refusal: the Rust {:?}, ours {:?}", expected.brace, answer.sheet.brace));
@@ -300,8 +358,8 @@ fn check(rooms: &mut Rooms, input: &Input, reading: u32, counts: &mut Counts) ->
             counts.links += expected.events.iter().filter(|e| (44..=47).contains(&e[0])).count() as u64;
             if room > 0 {
                 counts.built += 1;
-                check_short(rooms, input, reading, expected, room - 1)?;
-                check_short(rooms, input, reading, expected, room / 2)?;
+                check_short(rooms, input, reading, said, room - 1)?;
+                check_short(rooms, input, reading, said, room / 2)?;
             }
         }
     }
@@ -310,6 +368,8 @@ fn check(rooms: &mut Rooms, input: &Input, reading: u32, counts: &mut Counts) ->
         return Ok(());
     }
     counts.laws += 1;
+    counts.deep += u64::from(depth(&answer.sheet.events) >= 16);
+    counts.over += u64::from(math_over(input, &answer.sheet.events));
     broken(input, reading, &answer.sheet.events).map_or(Ok(()), |wrong| Err(format!("{wrong}: {:?}", answer.sheet.events)))
 }
 
@@ -374,7 +434,7 @@ fn length(r: &mut Random) -> usize {
     }
 }
 
-/// A text: any pieces, a few pieces over and over, deep nesting, long runs, or any bytes.
+/// A text: any pieces, a few pieces over and over, long runs, or any bytes.
 pub fn text(r: &mut Random, out: &mut Vec<u8>) {
     out.clear();
     let n = length(r);
@@ -456,6 +516,103 @@ pub fn cut(r: &mut Random, text: &[u8], out: &mut Vec<(usize, usize)>) {
     }
 }
 
+/// What opens and closes: first those that nest in one another.
+const PAIRS: &[(&str, &str)] = &[
+    ("{*", "*}"), ("{_", "_}"), ("{^", "^}"), ("{~", "~}"), ("{=", "=}"), ("{-", "-}"), ("{+", "+}"), ("[", "](b)"), ("[", "][b]"), ("![", "](b)"),
+    ("![", "][]"), ("*", "*"), ("_", "_"), ("^", "^"), ("~", "~"), ("'", "'"), ("\"", "\""), ("{'", "'}"), ("{\"", "\"}"), ("[", "]"), ("[a](", ")"),
+];
+
+/// Containers in one another: all of them closed, or any, some of them left open.
+fn nested(r: &mut Random, out: &mut Vec<u8>) {
+    out.clear();
+    let most = [4, 20, 60, 120][r.below(4)];
+    let (pairs, loose) = if r.below(2) == 0 { (11, false) } else { (PAIRS.len(), true) };
+    let between = ["a", "a", "b", "\n", "", " ", "-", "`"];
+    let mut open = Vec::new();
+    for _ in 0..1 + r.below(most) {
+        let (enter, exit) = PAIRS[r.below(pairs)];
+        out.extend(enter.as_bytes());
+        out.extend(between[r.below(if loose { 8 } else { 4 })].as_bytes());
+        open.push(exit);
+    }
+    while let Some(exit) = open.pop() {
+        if loose && r.below(8) == 0 {
+            continue;
+        }
+        out.extend(exit.as_bytes());
+        out.extend(between[r.below(if loose { 8 } else { 4 })].as_bytes());
+    }
+}
+
+/// Runs of backticks of a few lengths, most of them around 255, so that many close.
+fn backticks(r: &mut Random, out: &mut Vec<u8>) {
+    out.clear();
+    let mut len = || [1, 2, 254, 255, 255, 256, 256, 257, 511, 512][r.below(10)];
+    let lens = [len(), len()];
+    let between = ["a", " ", "\n", "\\", "$", "{=h}", "a ", " a", "  ", "*"];
+    for _ in 0..1 + r.below(6) {
+        out.extend(between[r.below(between.len())].as_bytes());
+        out.extend(std::iter::repeat_n(b'`', lens[r.below(2)]));
+    }
+    out.extend(between[r.below(between.len())].as_bytes());
+}
+
+/// Lines that end behind dollars, and begin with backticks: touching, or with a byte between them.
+fn dollars(r: &mut Random, input: &mut Input) {
+    let Input { text, lines } = input;
+    text.clear();
+    lines.clear();
+    let mut start = 0;
+    for _ in 0..1 + r.below(5) {
+        for _ in 0..r.below(4) {
+            text.extend(["a", "`", "``", " ", "\\", "\n", "*"][r.below(7)].as_bytes());
+        }
+        text.extend(["$", "$$", "$$$", "\\$", "a$"][r.below(5)].as_bytes());
+        lines.push((start, text.len()));
+        if r.below(3) == 0 {
+            text.push(b"$\\ a`\n"[r.below(6)]);
+        }
+        start = text.len();
+        text.extend(["`", "``", "$`", "`a`", "`{=h}"][r.below(5)].as_bytes());
+    }
+    lines.push((start, text.len()));
+}
+
+/// A random sheet: any text, cut anyhow, or one of a shape that such a text seldom has.
+fn sheet(r: &mut Random, input: &mut Input) {
+    match r.below(32) {
+        0 => return dollars(r, input),
+        1..=2 => nested(r, &mut input.text),
+        3 => backticks(r, &mut input.text),
+        _ => text(r, &mut input.text),
+    }
+    cut(r, &input.text, &mut input.lines);
+}
+
+/// What random sheets are counted by.
+const SHAPES: [&str; 8] = [
+    "of one line", "of more", "with gaps", "with touching lines", "with empty lines", "with 255 backticks", "with 256 and more", "not UTF-8",
+];
+
+fn shapes(input: &Input) -> [bool; 8] {
+    let lines = &input.lines;
+    let two = |test: fn(usize, usize) -> bool| lines.windows(2).any(|l| test(l[0].1, l[1].0));
+    let runs = |test: fn(usize) -> bool| {
+        let run = |l: &(usize, usize)| input.text[l.0..l.1].split(|&b| b != b'`').any(|run| test(run.len()));
+        lines.iter().any(run)
+    };
+    [
+        lines.len() == 1,
+        lines.len() > 1,
+        two(|end, start| end < start),
+        two(|end, start| end == start),
+        lines.iter().any(|l| l.0 == l.1),
+        runs(|n| n == 255),
+        runs(|n| n > 255),
+        input.characters().is_none(),
+    ]
+}
+
 /// Whether there is no difference.
 pub fn compare(sheets: u64, seed: u64) -> bool {
     std::panic::set_hook(Box::new(|_| ()));
@@ -518,20 +675,25 @@ pub fn compare(sheets: u64, seed: u64) -> bool {
     let started = Instant::now();
     let mut r = Random::new(seed);
     let mut input = Input { text: Vec::new(), lines: Vec::new() };
+    let mut shaped = [0u64; SHAPES.len()];
     for _ in 0..sheets {
-        text(&mut r, &mut input.text);
-        cut(&mut r, &input.text, &mut input.lines);
+        sheet(&mut r, &mut input);
+        for (count, is) in shaped.iter_mut().zip(shapes(&input)) {
+            *count += u64::from(is);
+        }
         if !right(&mut rooms, &input, &mut counts) {
             return false;
         }
     }
-    println!("sheets: {sheets} random ones of seed {seed} ({:.0?})", started.elapsed());
-    let figures = |c: &Counts| {
-        format!(
-            "{} compared with the Rust, {} refused at a brace, {} lists by the laws, {} links, {} sheets with built labels",
-            c.compared, c.refused, c.laws, c.links, c.built
-        )
-    };
-    println!("no difference in {} sheets; reading 0: {}; reading 1: {}", short + two + long + sheets, figures(&counts[0]), figures(&counts[1]));
+    let shaped: Vec<_> = shaped.iter().zip(SHAPES).map(|(count, shape)| format!("{count} {shape}")).collect();
+    println!("sheets: {sheets} random ones of seed {seed}, {} ({:.0?})", shaped.join(", "), started.elapsed());
+    println!("no difference in {} sheets", short + two + long + sheets);
+    for (reading, c) in counts.iter().enumerate() {
+        println!(
+            "reading {reading}: {} compared with the Rust, {} refused at a brace, {} lists by the laws, {} of them 16 deep, {} with math over a \
+             line's end, {} links, {} sheets with built labels, {} event rooms too short",
+            c.compared, c.refused, c.laws, c.deep, c.over, c.links, c.built, c.full
+        );
+    }
     true
 }
