@@ -151,7 +151,7 @@ module _ (v : View) (h : Here) (s : State) (o : List ℕ) (mark n : ℕ) (f : Fo
       unfolding closable
       sought-closes t = sym (rw (sought, t, closable) (ap At (pile-length openerAt i o)))
 
-      pub sought-not : may-close v h s x ≡ false → Nothing ≡ closable v h s (seek mark (opens n o))
+      sought-not : may-close v h s x ≡ false → Nothing ≡ closable v h s (seek mark (opens n o))
       unfolding closable
       sought-not t = sym (rw (sought, t, closable))
 
@@ -247,3 +247,11 @@ module _ (m : Margin) (text line : List ℕ) (h : Span) (k : Marks) (p : Parser)
           → Stepped p q o l r q′ o′ l′ (container (sheetOf rules text l) (viewed m line) (here h p) k)
       unfolding tried
       closed-step rules r q′ o′ l′ s = record { same = s .same ∙ sym (rw (there, may, tried)); labels = s .labels }
+
+-- only the newest opener that a mark closes is tried: where it may not close, none is found
+module _ (m : Margin) (line : List ℕ) (h : Span) (p : Parser) (o : List ℕ) (mark : ℕ) where
+  pub tried-barred : (f : Found) → f ≡ place (seek mark (opens (p .openers) o)) → (i : ℕ) → f ≡ At i → (x : Opener) → x ≡ openerAt o i → (b : Bool)
+      → ((q os l : List ℕ) → b ≡ may-close (viewed m line) (here h p) (stands p q os l) x) → b ≡ false → (q l : List ℕ)
+      → Nothing ≡ closable (viewed m line) (here h p) (stands p q o l) (seek mark (opens (p .openers) o))
+  tried-barred f isf i e x isx b may no-close q l =
+      sought-not (viewed m line) (here h p) (stands p q o l) o mark (p .openers) f isf i e x isx (sym (may q o l) ∙ no-close)

@@ -4,7 +4,7 @@ use mathlib.Core.Path.{sym, _∙_}
 use native.Mathlib.Omega.{arith}
 use borrow.Author.Needs.{needs}
 use Rattle.rooms.specs.Standing.{stands, viewed, here}
-use Rattle.containers.proofs.Sought.{sought-none, sought-within, sought-names, sought-closes, sought-not}
+use Rattle.containers.proofs.Sought.{sought-none, sought-within, sought-names, sought-closes, tried-barred}
 use Rattle.containers.proofs.tried.Statement.{statement}
 use Rattle.containers.proofs.tried.Tie as tie
 
@@ -56,14 +56,7 @@ returns-2 c q l =
     sought-closes (viewed (args .m) (args .line .now)) (here (args .h) (args .p)) (stands (args .p) q (args .openers .now) l) (args .openers .now) (args .closes) (args .p .openers) (seek .result) (seek .ensures) _ (i .given .1) (opener-at .result) (opener-at .ensures) (sym (may-close .ensures q (args .openers .now) l) ∙ if1 .taken)
 
 returns-3 : tie.Need-returns-3
-returns-3 c q l =
-    let args = c .before .before .before .before .before .before .before .before .before .args in
-    let seek = c .before .before .before .before .before .before .seek in
-    let i = c .before .before .before .before .i in
-    let opener-at = c .before .before .opener-at in
-    let may-close = c .before .may-close in
-    let if1 = c .if1 in
-    sought-not (viewed (args .m) (args .line .now)) (here (args .h) (args .p)) (stands (args .p) q (args .openers .now) l) (args .openers .now) (args .closes) (args .p .openers) (seek .result) (seek .ensures) _ (i .given .1) (opener-at .result) (opener-at .ensures) (sym (may-close .ensures q (args .openers .now) l) ∙ if1 .left)
+returns-3 c = search (needs, tried-barred)
 
 pub tried-spec : {M : Type 1} → statement M
 tried-spec =
