@@ -258,7 +258,7 @@ fn tried(line: &[u8], m: Margin, h: Span, closes: u32, p: Parser, openers: &[u32
 }
 
 // A token closes an opener, with which all newer ones are discarded; or opens; or is what it is alone.
-pub fn container(
+pub fn parse_container(
     text: &[u8],
     line: &[u8],
     m: Margin,

@@ -47,7 +47,7 @@ fn bracket() -> Marks
 }
 
 // `<`: an autolink if the scan accepts.
-fn angle(
+fn parse_autolink(
     text: &[u8],
     line: &[u8],
     m: Margin,
@@ -64,13 +64,13 @@ fn angle(
         (now (line .entry))) (here h p) (autolinkOf (drop (h .to) (now (line .entry)))))) ⌝ }
 {
     let Ahead::Some(n) = scan::ahead_autolink(line, h.to) else {
-        return containers::container(text, line, m, h, plain(1), p, queue, openers, labels);
+        return containers::parse_container(text, line, m, h, plain(1), p, queue, openers, labels);
     };
     atoms::autolinked(m, h, n, p, queue)
 }
 
 // `:`: a symbol if the scan accepts.
-fn colon(
+fn parse_symbol(
     text: &[u8],
     line: &[u8],
     m: Margin,
@@ -87,7 +87,7 @@ fn colon(
         (now (line .entry))) (here h p) (symbolOf (drop (h .to) (now (line .entry)))))) ⌝ }
 {
     let Ahead::Some(n) = scan::ahead_symbol(line, h.to) else {
-        return containers::container(text, line, m, h, plain(1), p, queue, openers, labels);
+        return containers::parse_container(text, line, m, h, plain(1), p, queue, openers, labels);
     };
     atoms::named(m, h, 13, n, p, queue)
 }
@@ -110,13 +110,13 @@ fn noted(
         (now (line .entry))) (here h p) (footnoteOf (drop (h .to) (now (line .entry)))))) ⌝ }
 {
     let Ahead::Some(n) = scan::ahead_footnote(line, h.to) else {
-        return containers::container(text, line, m, h, bracket(), p, queue, openers, labels);
+        return containers::parse_container(text, line, m, h, bracket(), p, queue, openers, labels);
     };
     atoms::named(m, h, 14, n, p, queue)
 }
 
 // `[`: the next token is peeked at; with `^` behind it, and not `^}`, the two are one token.
-fn bracketed(
+fn parse_footnote_reference(
     text: &[u8],
     line: &[u8],
     m: Margin,
@@ -138,7 +138,17 @@ fn bracketed(
     let next = ahead.token;
     let out = rooms::moved(p, held);
     let Next::Some(t) = next else {
-        return containers::container(text, line, m, h, bracket(), out, queue, openers, labels);
+        return containers::parse_container(
+            text,
+            line,
+            m,
+            h,
+            bracket(),
+            out,
+            queue,
+            openers,
+            labels,
+        );
     };
     let kind = t.kind;
     if tables::is_caret(tables::role_of(kind)) {
@@ -159,7 +169,7 @@ fn bracketed(
             labels,
         );
     }
-    containers::container(text, line, m, h, bracket(), out, queue, openers, labels)
+    containers::parse_container(text, line, m, h, bracket(), out, queue, openers, labels)
 }
 
 // A bare opening brace: the sheet is refused there.
@@ -206,7 +216,7 @@ fn backticks(
     if h.to - h.from <= 255 {
         return verbatim::opens_verbatim(m, h, p, queue);
     }
-    containers::container(text, line, m, h, plain(1), p, queue, openers, labels)
+    containers::parse_container(text, line, m, h, plain(1), p, queue, openers, labels)
 }
 
 // Two hyphens and more are dashes.
@@ -227,7 +237,7 @@ fn hyphens(
         (now (line .entry))) (here h p) Role.Hyphens)) ⌝ }
 {
     if h.to - h.from < 2 {
-        return containers::container(text, line, m, h, plain(1), p, queue, openers, labels);
+        return containers::parse_container(text, line, m, h, plain(1), p, queue, openers, labels);
     }
     atoms::dashes(m, h, p, queue)
 }
@@ -254,12 +264,32 @@ pub fn outside(
     match role {
         Role::Backticks => backticks(text, line, m, h, p, queue, openers, labels),
         Role::Brace => refuse(m, h, p),
-        Role::Lt => angle(text, line, m, h, p, queue, openers, labels),
-        Role::Colon => colon(text, line, m, h, p, queue, openers, labels),
-        Role::Bracket => bracketed(text, line, m, h, p, queue, openers, labels),
-        Role::Paren => containers::container(text, line, m, h, plain(1), p, queue, openers, labels),
+        Role::Lt => parse_autolink(text, line, m, h, p, queue, openers, labels),
+        Role::Colon => parse_symbol(text, line, m, h, p, queue, openers, labels),
+        Role::Bracket => parse_footnote_reference(text, line, m, h, p, queue, openers, labels),
+        Role::Paren => containers::parse_container(
+            text,
+            line,
+            m,
+            h,
+            plain(1),
+            p,
+            queue,
+            openers,
+            labels,
+        ),
         Role::Periods => atoms::dots(line, m, h, p, queue),
         Role::Hyphens => hyphens(text, line, m, h, p, queue, openers, labels),
-        Role::Other(k) => containers::container(text, line, m, h, k, p, queue, openers, labels),
+        Role::Other(k) => containers::parse_container(
+            text,
+            line,
+            m,
+            h,
+            k,
+            p,
+            queue,
+            openers,
+            labels,
+        ),
     }
 }

@@ -33,8 +33,8 @@ returns c rules =
 plain-requires : tie.Need-plain-requires
 plain-requires c κs = search needs
 
-container-requires : tie.Need-container-requires
-container-requires c κs = search needs
+parse-container-requires : tie.Need-parse-container-requires
+parse-container-requires c κs = search needs
 
 same-length-2 : tie.Need-same-length-2
 same-length-2 c = search needs
@@ -48,10 +48,10 @@ same-length-4 c = search needs
 returns-2 : tie.Need-returns-2
 returns-2 c rules =
     let args = c .before .before .before .before .before .before .before .before .before .before .before .before .before .before .before .before .before .before .args in
-    let container = c .before .before .before .before .before .before .container in
+    let parse-container = c .before .before .before .before .before .before .parse-container in
     let if1 = c .before .before .before .before .before .before .before .before .before .before .before .if1 in
     let plain = c .before .before .before .before .before .before .before .before .before .before .plain in
-    run-long (sheetOf rules (args .text .now) (args .labels .now)) (viewed (args .m) (args .line .now)) (here (args .h) (args .p)) (args .p) (args .queue .now) (args .openers .now) (args .labels .now) (container .result) (container .last .1 .1 .1 .1 .1 .1 .0) (container .last .1 .1 .1 .1 .1 .1 .1 .0) (container .last .1 .1 .1 .1 .1 .1 .1 .1 .0) (if1 .left) (plain .result) (plain .ensures) (container .ensures rules)
+    run-long (sheetOf rules (args .text .now) (args .labels .now)) (viewed (args .m) (args .line .now)) (here (args .h) (args .p)) (args .p) (args .queue .now) (args .openers .now) (args .labels .now) (parse-container .result) (parse-container .last .1 .1 .1 .1 .1 .1 .0) (parse-container .last .1 .1 .1 .1 .1 .1 .1 .0) (parse-container .last .1 .1 .1 .1 .1 .1 .1 .1 .0) (if1 .left) (plain .result) (plain .ensures) (parse-container .ensures rules)
 
 pub backticks-spec : {M : Type 1} → statement M
 backticks-spec =
@@ -62,7 +62,7 @@ backticks-spec =
     same-length
     returns
     plain-requires
-    container-requires
+    parse-container-requires
     same-length-2
     same-length-3
     same-length-4

@@ -12,8 +12,8 @@ sub-if1 c = search needs
 plain-requires : tie.Need-plain-requires
 plain-requires c κs = search needs
 
-container-requires : tie.Need-container-requires
-container-requires c κs = search needs
+parse-container-requires : tie.Need-parse-container-requires
+parse-container-requires c κs = search needs
 
 same-length : tie.Need-same-length
 same-length c = search needs
@@ -27,10 +27,10 @@ same-length-3 c = search needs
 returns : tie.Need-returns
 returns c rules =
     let args = c .before .before .before .before .before .before .before .before .before .before .before .before .before .before .before .before .before .before .args in
-    let container = c .before .before .before .before .before .before .container in
+    let parse-container = c .before .before .before .before .before .before .parse-container in
     let if1 = c .before .before .before .before .before .before .before .before .before .before .before .if1 in
     let plain = c .before .before .before .before .before .before .before .before .before .before .plain in
-    hyphen-one (sheetOf rules (args .text .now) (args .labels .now)) (viewed (args .m) (args .line .now)) (here (args .h) (args .p)) (args .p) (args .queue .now) (args .openers .now) (args .labels .now) (container .result) (container .last .1 .1 .1 .1 .1 .1 .0) (container .last .1 .1 .1 .1 .1 .1 .1 .0) (container .last .1 .1 .1 .1 .1 .1 .1 .1 .0) (if1 .taken) (plain .result) (plain .ensures) (container .ensures rules)
+    hyphen-one (sheetOf rules (args .text .now) (args .labels .now)) (viewed (args .m) (args .line .now)) (here (args .h) (args .p)) (args .p) (args .queue .now) (args .openers .now) (args .labels .now) (parse-container .result) (parse-container .last .1 .1 .1 .1 .1 .1 .0) (parse-container .last .1 .1 .1 .1 .1 .1 .1 .0) (parse-container .last .1 .1 .1 .1 .1 .1 .1 .1 .0) (if1 .taken) (plain .result) (plain .ensures) (parse-container .ensures rules)
 
 dashes-requires : tie.Need-dashes-requires
 dashes-requires c κs = search needs
@@ -52,7 +52,7 @@ hyphens-spec =
     (tie.spec
     sub-if1
     plain-requires
-    container-requires
+    parse-container-requires
     same-length
     same-length-2
     same-length-3

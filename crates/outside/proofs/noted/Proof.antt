@@ -22,8 +22,8 @@ enum-told c = search needs
 bracket-requires : tie.Need-bracket-requires
 bracket-requires c κs = search needs
 
-container-requires : tie.Need-container-requires
-container-requires c κs = search needs
+parse-container-requires : tie.Need-parse-container-requires
+parse-container-requires c κs = search needs
 
 same-length : tie.Need-same-length
 same-length c = search needs
@@ -37,12 +37,12 @@ same-length-3 c = search needs
 returns : tie.Need-returns
 returns c rules =
     let args = c .before .before .before .before .before .before .before .before .before .before .before .before .before .before .before .before .before .before .before .args in
-    let container = c .before .before .before .before .before .before .container in
+    let parse-container = c .before .before .before .before .before .before .parse-container in
     let ahead-footnote = c .before .before .before .before .before .before .before .before .before .before .before .before .before .ahead-footnote in
     let enum-told = c .before .before .before .before .before .before .before .before .before .before .before .enum-told in
     let bracket = c .before .before .before .before .before .before .before .before .before .before .bracket in
-    noted-else (sheetOf rules (args .text .now) (args .labels .now)) (viewed (args .m) (args .line .now)) (here (args .h) (args .p)) (args .p) (args .queue .now) (args .openers .now) (args .labels .now) (container .result) (container .last .1 .1 .1 .1 .1 .1 .0) (container .last .1 .1 .1 .1 .1 .1 .1 .0) (container .last .1 .1 .1 .1 .1 .1 .1 .1 .0)
-    _ (sym (ahead-footnote .ensures) ∙ enum-told .given .1) (bracket .result) (bracket .ensures) (container .ensures rules)
+    noted-else (sheetOf rules (args .text .now) (args .labels .now)) (viewed (args .m) (args .line .now)) (here (args .h) (args .p)) (args .p) (args .queue .now) (args .openers .now) (args .labels .now) (parse-container .result) (parse-container .last .1 .1 .1 .1 .1 .1 .0) (parse-container .last .1 .1 .1 .1 .1 .1 .1 .0) (parse-container .last .1 .1 .1 .1 .1 .1 .1 .1 .0)
+    _ (sym (ahead-footnote .ensures) ∙ enum-told .given .1) (bracket .result) (bracket .ensures) (parse-container .ensures rules)
 
 named-requires : tie.Need-named-requires
 named-requires c κs =
@@ -77,7 +77,7 @@ noted-spec =
     enum-known-n
     enum-told
     bracket-requires
-    container-requires
+    parse-container-requires
     same-length
     same-length-2
     same-length-3

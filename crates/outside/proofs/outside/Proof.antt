@@ -21,20 +21,20 @@ refuse-requires c κs = search needs
 enum-told-3 : tie.Need-enum-told-3
 enum-told-3 c = search needs
 
-angle-requires : tie.Need-angle-requires
-angle-requires c κs = search needs
+parse-autolink-requires : tie.Need-parse-autolink-requires
+parse-autolink-requires c κs = search needs
 
 enum-told-4 : tie.Need-enum-told-4
 enum-told-4 c = search needs
 
-colon-requires : tie.Need-colon-requires
-colon-requires c κs = search needs
+parse-symbol-requires : tie.Need-parse-symbol-requires
+parse-symbol-requires c κs = search needs
 
 enum-told-5 : tie.Need-enum-told-5
 enum-told-5 c = search needs
 
-bracketed-requires : tie.Need-bracketed-requires
-bracketed-requires c κs = search needs
+parse-footnote-reference-requires : tie.Need-parse-footnote-reference-requires
+parse-footnote-reference-requires c κs = search needs
 
 enum-told-6 : tie.Need-enum-told-6
 enum-told-6 c = search needs
@@ -42,8 +42,8 @@ enum-told-6 c = search needs
 plain-requires : tie.Need-plain-requires
 plain-requires c κs = search needs
 
-container-requires : tie.Need-container-requires
-container-requires c κs = search needs
+parse-container-requires : tie.Need-parse-container-requires
+parse-container-requires c κs = search needs
 
 enum-told-7 : tie.Need-enum-told-7
 enum-told-7 c = search needs
@@ -60,8 +60,8 @@ hyphens-requires c κs = search needs
 enum-known-role : tie.Need-enum-known-role
 enum-known-role c = search needs
 
-container-requires-2 : tie.Need-container-requires-2
-container-requires-2 c κs = search needs
+parse-container-requires-2 : tie.Need-parse-container-requires-2
+parse-container-requires-2 c κs = search needs
 
 same-length : tie.Need-same-length
 same-length c = search needs
@@ -99,9 +99,9 @@ same-length-6 c = search needs
 returns-3 : tie.Need-returns-3
 returns-3 c rules =
     let args = c .before .before .before .before .before .before .before .before .before .before .before .before .before .before .before .before .before .args in
-    let angle = c .before .before .before .before .before .before .angle in
+    let parse-autolink = c .before .before .before .before .before .before .parse-autolink in
     let enum-told3 = c .before .before .before .before .before .before .before .before .before .before .enum-told3 in
-    as-lt (sheetOf rules (args .text .now) (args .labels .now)) (viewed (args .m) (args .line .now)) (here (args .h) (args .p)) (args .p) (args .queue .now) (args .openers .now) (args .labels .now) (angle .result) (angle .last .1 .1 .1 .1 .1 .0) (angle .last .1 .1 .1 .1 .1 .1 .0) (angle .last .1 .1 .1 .1 .1 .1 .1 .0) (args .role) (enum-told3 .given .1) (angle .ensures rules)
+    as-lt (sheetOf rules (args .text .now) (args .labels .now)) (viewed (args .m) (args .line .now)) (here (args .h) (args .p)) (args .p) (args .queue .now) (args .openers .now) (args .labels .now) (parse-autolink .result) (parse-autolink .last .1 .1 .1 .1 .1 .0) (parse-autolink .last .1 .1 .1 .1 .1 .1 .0) (parse-autolink .last .1 .1 .1 .1 .1 .1 .1 .0) (args .role) (enum-told3 .given .1) (parse-autolink .ensures rules)
 
 same-length-7 : tie.Need-same-length-7
 same-length-7 c = search needs
@@ -115,9 +115,9 @@ same-length-9 c = search needs
 returns-4 : tie.Need-returns-4
 returns-4 c rules =
     let args = c .before .before .before .before .before .before .before .before .before .before .before .before .before .before .before .before .before .args in
-    let colon = c .before .before .before .before .before .before .colon in
+    let parse-symbol = c .before .before .before .before .before .before .parse-symbol in
     let enum-told4 = c .before .before .before .before .before .before .before .before .before .before .enum-told4 in
-    as-colon (sheetOf rules (args .text .now) (args .labels .now)) (viewed (args .m) (args .line .now)) (here (args .h) (args .p)) (args .p) (args .queue .now) (args .openers .now) (args .labels .now) (colon .result) (colon .last .1 .1 .1 .1 .1 .0) (colon .last .1 .1 .1 .1 .1 .1 .0) (colon .last .1 .1 .1 .1 .1 .1 .1 .0) (args .role) (enum-told4 .given .1) (colon .ensures rules)
+    as-colon (sheetOf rules (args .text .now) (args .labels .now)) (viewed (args .m) (args .line .now)) (here (args .h) (args .p)) (args .p) (args .queue .now) (args .openers .now) (args .labels .now) (parse-symbol .result) (parse-symbol .last .1 .1 .1 .1 .1 .0) (parse-symbol .last .1 .1 .1 .1 .1 .1 .0) (parse-symbol .last .1 .1 .1 .1 .1 .1 .1 .0) (args .role) (enum-told4 .given .1) (parse-symbol .ensures rules)
 
 same-length-10 : tie.Need-same-length-10
 same-length-10 c = search needs
@@ -131,9 +131,9 @@ same-length-12 c = search needs
 returns-5 : tie.Need-returns-5
 returns-5 c rules =
     let args = c .before .before .before .before .before .before .before .before .before .before .before .before .before .before .before .before .before .args in
-    let bracketed = c .before .before .before .before .before .before .bracketed in
+    let parse-footnote-reference = c .before .before .before .before .before .before .parse-footnote-reference in
     let enum-told5 = c .before .before .before .before .before .before .before .before .before .before .enum-told5 in
-    as-bracket (sheetOf rules (args .text .now) (args .labels .now)) (viewed (args .m) (args .line .now)) (here (args .h) (args .p)) (args .p) (args .queue .now) (args .openers .now) (args .labels .now) (bracketed .result) (bracketed .last .1 .1 .1 .1 .1 .0) (bracketed .last .1 .1 .1 .1 .1 .1 .0) (bracketed .last .1 .1 .1 .1 .1 .1 .1 .0) (args .role) (enum-told5 .given .1) (bracketed .ensures rules)
+    as-bracket (sheetOf rules (args .text .now) (args .labels .now)) (viewed (args .m) (args .line .now)) (here (args .h) (args .p)) (args .p) (args .queue .now) (args .openers .now) (args .labels .now) (parse-footnote-reference .result) (parse-footnote-reference .last .1 .1 .1 .1 .1 .0) (parse-footnote-reference .last .1 .1 .1 .1 .1 .1 .0) (parse-footnote-reference .last .1 .1 .1 .1 .1 .1 .1 .0) (args .role) (enum-told5 .given .1) (parse-footnote-reference .ensures rules)
 
 same-length-13 : tie.Need-same-length-13
 same-length-13 c = search needs
@@ -147,10 +147,10 @@ same-length-15 c = search needs
 returns-6 : tie.Need-returns-6
 returns-6 c rules =
     let args = c .before .before .before .before .before .before .before .before .before .before .before .before .before .before .before .before .before .before .args in
-    let container = c .before .before .before .before .before .before .container in
+    let parse-container = c .before .before .before .before .before .before .parse-container in
     let enum-told6 = c .before .before .before .before .before .before .before .before .before .before .before .enum-told6 in
     let plain = c .before .before .before .before .before .before .before .before .before .before .plain in
-    as-paren (sheetOf rules (args .text .now) (args .labels .now)) (viewed (args .m) (args .line .now)) (here (args .h) (args .p)) (args .p) (args .queue .now) (args .openers .now) (args .labels .now) (container .result) (container .last .1 .1 .1 .1 .1 .1 .0) (container .last .1 .1 .1 .1 .1 .1 .1 .0) (container .last .1 .1 .1 .1 .1 .1 .1 .1 .0) (args .role) (enum-told6 .given .1) (plain .result) (plain .ensures) (container .ensures rules)
+    as-paren (sheetOf rules (args .text .now) (args .labels .now)) (viewed (args .m) (args .line .now)) (here (args .h) (args .p)) (args .p) (args .queue .now) (args .openers .now) (args .labels .now) (parse-container .result) (parse-container .last .1 .1 .1 .1 .1 .1 .0) (parse-container .last .1 .1 .1 .1 .1 .1 .1 .0) (parse-container .last .1 .1 .1 .1 .1 .1 .1 .1 .0) (args .role) (enum-told6 .given .1) (plain .result) (plain .ensures) (parse-container .ensures rules)
 
 same-length-16 : tie.Need-same-length-16
 same-length-16 c = search needs
@@ -191,9 +191,9 @@ same-length-22 c = search needs
 returns-9 : tie.Need-returns-9
 returns-9 c rules =
     let args = c .before .before .before .before .before .before .before .before .before .before .before .before .before .before .before .before .before .before .args in
-    let container2 = c .before .before .before .before .before .before .container2 in
+    let parse-container2 = c .before .before .before .before .before .before .parse-container2 in
     let role = c .before .before .before .before .before .before .before .before .before .before .before .role in
-    as-other (sheetOf rules (args .text .now) (args .labels .now)) (viewed (args .m) (args .line .now)) (here (args .h) (args .p)) (args .p) (args .queue .now) (args .openers .now) (args .labels .now) (container2 .result) (container2 .last .1 .1 .1 .1 .1 .1 .0) (container2 .last .1 .1 .1 .1 .1 .1 .1 .0) (container2 .last .1 .1 .1 .1 .1 .1 .1 .1 .0) (args .role) _ (role .given .1) (container2 .ensures rules)
+    as-other (sheetOf rules (args .text .now) (args .labels .now)) (viewed (args .m) (args .line .now)) (here (args .h) (args .p)) (args .p) (args .queue .now) (args .openers .now) (args .labels .now) (parse-container2 .result) (parse-container2 .last .1 .1 .1 .1 .1 .1 .0) (parse-container2 .last .1 .1 .1 .1 .1 .1 .1 .0) (parse-container2 .last .1 .1 .1 .1 .1 .1 .1 .1 .0) (args .role) _ (role .given .1) (parse-container2 .ensures rules)
 
 pub outside-spec : {M : Type 1} → statement M
 outside-spec =
@@ -204,20 +204,20 @@ outside-spec =
     enum-told-2
     refuse-requires
     enum-told-3
-    angle-requires
+    parse-autolink-requires
     enum-told-4
-    colon-requires
+    parse-symbol-requires
     enum-told-5
-    bracketed-requires
+    parse-footnote-reference-requires
     enum-told-6
     plain-requires
-    container-requires
+    parse-container-requires
     enum-told-7
     dots-requires
     enum-told-8
     hyphens-requires
     enum-known-role
-    container-requires-2
+    parse-container-requires-2
     same-length
     same-length-2
     same-length-3

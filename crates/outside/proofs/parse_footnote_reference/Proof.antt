@@ -1,4 +1,4 @@
--- `outside::bracketed` meets its contract, by the laws of `Caret`.
+-- `outside::parse_footnote_reference` meets its contract, by the laws of `Caret`.
 use mathlib.Core.Path.{subst, sym, ap, _∙_}
 use native.Mathlib.Omega.{arith}
 use borrow.Author.Needs.{needs}
@@ -9,8 +9,8 @@ use Rattle.rooms.specs.declared.Parser.{Parser}
 use Rattle.reading.specs.Machine.{rulesOf}
 use Rattle.reading.specs.Tokens.{is-caret as caret-role}
 use Rattle.outside.proofs.Caret.{peek-ready, peek-shelving, caret-none, caret-no, caret-yes, caret-within, caret-ready}
-use Rattle.outside.proofs.bracketed.Statement.{statement}
-use Rattle.outside.proofs.bracketed.Tie as tie
+use Rattle.outside.proofs.parse_footnote_reference.Statement.{statement}
+use Rattle.outside.proofs.parse_footnote_reference.Tie as tie
 
 peek-requires : tie.Need-peek-requires
 peek-requires c κs = search needs
@@ -27,8 +27,8 @@ enum-told c = search needs
 bracket-requires : tie.Need-bracket-requires
 bracket-requires c κs = search needs
 
-container-requires : tie.Need-container-requires
-container-requires c κs =
+parse-container-requires : tie.Need-parse-container-requires
+parse-container-requires c κs =
     let args = c .before .before .before .before .before .before .before .before .before .before .before .before .before .before .before .args in
     let peek = c .before .before .before .before .before .before .before .before .peek in
     let moved = c .before .before .before .before .before .before .moved in
@@ -51,11 +51,11 @@ returns c rules =
     let args = c .before .before .before .before .before .before .before .before .before .before .before .before .before .before .before .before .before .before .before .before .before .before .args in
     let peek = c .before .before .before .before .before .before .before .before .before .before .before .before .before .before .before .peek in
     let moved = c .before .before .before .before .before .before .before .before .before .before .before .before .before .moved in
-    let container = c .before .before .before .before .before .before .container in
+    let parse-container = c .before .before .before .before .before .before .parse-container in
     let enum-told = c .before .before .before .before .before .before .before .before .before .before .before .enum-told in
     let bracket = c .before .before .before .before .before .before .before .before .before .before .bracket in
     caret-none (sheetOf rules (args .text .now) (args .labels .now)) (args .m) (args .line .now) (args .h) (args .p) (args .queue .now) (args .openers .now) (args .labels .now) (peek .result) (peek .ensures) (moved .result) (moved .ensures)
-    (container .result) (container .last .1 .1 .1 .1 .1 .1 .0) (container .last .1 .1 .1 .1 .1 .1 .1 .0) (container .last .1 .1 .1 .1 .1 .1 .1 .1 .0) (enum-told .given .1) (bracket .result) (bracket .ensures) (container .ensures rules)
+    (parse-container .result) (parse-container .last .1 .1 .1 .1 .1 .1 .0) (parse-container .last .1 .1 .1 .1 .1 .1 .1 .0) (parse-container .last .1 .1 .1 .1 .1 .1 .1 .1 .0) (enum-told .given .1) (bracket .result) (bracket .ensures) (parse-container .ensures rules)
 
 role-of-requires : tie.Need-role-of-requires
 role-of-requires c κs = search needs
@@ -119,8 +119,8 @@ returns-2 c rules =
 bracket-requires-2 : tie.Need-bracket-requires-2
 bracket-requires-2 c κs = search needs
 
-container-requires-2 : tie.Need-container-requires-2
-container-requires-2 c κs =
+parse-container-requires-2 : tie.Need-parse-container-requires-2
+parse-container-requires-2 c κs =
     let args = c .before .before .before .before .before .before .before .before .before .before .before .before .before .before .before .before .before .before .before .args in
     let peek = c .before .before .before .before .before .before .before .before .before .before .before .before .peek in
     let moved = c .before .before .before .before .before .before .before .before .before .before .moved in
@@ -143,17 +143,17 @@ returns-3 c rules =
     let args = c .before .before .before .before .before .before .before .before .before .before .before .before .before .before .before .before .before .before .before .before .before .before .before .before .before .before .args in
     let peek = c .before .before .before .before .before .before .before .before .before .before .before .before .before .before .before .before .before .before .before .peek in
     let moved = c .before .before .before .before .before .before .before .before .before .before .before .before .before .before .before .before .before .moved in
-    let container2 = c .before .before .before .before .before .before .container2 in
+    let parse-container2 = c .before .before .before .before .before .before .parse-container2 in
     let next = c .before .before .before .before .before .before .before .before .before .before .before .before .before .before .before .next in
     let is-caret = c .before .before .before .before .before .before .before .before .before .before .before .before .is-caret in
     let role-of = c .before .before .before .before .before .before .before .before .before .before .before .before .before .role-of in
     let if1 = c .before .before .before .before .before .before .before .before .before .before .before .if1 in
     let bracket2 = c .before .before .before .before .before .before .before .before .before .before .bracket2 in
     caret-no (sheetOf rules (args .text .now) (args .labels .now)) (args .m) (args .line .now) (args .h) (args .p) (args .queue .now) (args .openers .now) (args .labels .now) (peek .result) (peek .ensures) (moved .result) (moved .ensures)
-    (container2 .result) (container2 .last .1 .1 .1 .1 .1 .1 .0) (container2 .last .1 .1 .1 .1 .1 .1 .1 .0) (container2 .last .1 .1 .1 .1 .1 .1 .1 .1 .0) _ (next .given .1) (sym (is-caret .ensures ∙ ap caret-role (role-of .ensures)) ∙ if1 .left) (bracket2 .result) (bracket2 .ensures) (container2 .ensures rules)
+    (parse-container2 .result) (parse-container2 .last .1 .1 .1 .1 .1 .1 .0) (parse-container2 .last .1 .1 .1 .1 .1 .1 .1 .0) (parse-container2 .last .1 .1 .1 .1 .1 .1 .1 .1 .0) _ (next .given .1) (sym (is-caret .ensures ∙ ap caret-role (role-of .ensures)) ∙ if1 .left) (bracket2 .result) (bracket2 .ensures) (parse-container2 .ensures rules)
 
-pub bracketed-spec : {M : Type 1} → statement M
-bracketed-spec =
+pub parse-footnote-reference-spec : {M : Type 1} → statement M
+parse-footnote-reference-spec =
     tie.close
     (tie.spec
     peek-requires
@@ -161,7 +161,7 @@ bracketed-spec =
     enum-known-next
     enum-told
     bracket-requires
-    container-requires
+    parse-container-requires
     same-length
     same-length-2
     same-length-3
@@ -177,7 +177,7 @@ bracketed-spec =
     same-length-6
     returns-2
     bracket-requires-2
-    container-requires-2
+    parse-container-requires-2
     same-length-7
     same-length-8
     same-length-9

@@ -1,9 +1,9 @@
--- `containers::container` meets its contract, by the laws of `Sought`.
+-- `containers::parse_container` meets its contract, by the laws of `Sought`.
 use native.Mathlib.Omega.{arith}
 use borrow.Author.Needs.{needs}
 use Rattle.containers.proofs.Sought.{none-step, found-within, found-names, found-ready, closed-step}
-use Rattle.containers.proofs.container.Statement.{statement}
-use Rattle.containers.proofs.container.Tie as tie
+use Rattle.containers.proofs.parse_container.Statement.{statement}
+use Rattle.containers.proofs.parse_container.Tie as tie
 
 tried-requires : tie.Need-tried-requires
 tried-requires c κs =
@@ -74,8 +74,8 @@ returns-2 c rules =
     let close-as = c .before .before .before .before .before .before .close-as in
     closed-step (args .m) (args .text .now) (args .line .now) (args .h) (args .k) (args .p) (args .queue .now) (args .openers .now) (args .labels .now) (tried .result) (tried .ensures (args .queue .now) (args .labels .now)) _ (i .given .1) (opener-at .result) (opener-at .ensures) rules (close-as .result) (close-as .last .1 .1 .1 .1 .1 .1 .0) (close-as .last .1 .1 .1 .1 .1 .1 .1 .0) (close-as .last .1 .1 .1 .1 .1 .1 .1 .1 .0) (close-as .ensures rules)
 
-pub container-spec : {M : Type 1} → statement M
-container-spec =
+pub parse-container-spec : {M : Type 1} → statement M
+parse-container-spec =
     tie.close
     (tie.spec
     tried-requires

@@ -1,4 +1,4 @@
--- `outside::angle` meets its contract, by the laws of `Ahead`.
+-- `outside::parse_autolink` meets its contract, by the laws of `Ahead`.
 use mathlib.Core.Path.{sym, _∙_}
 use native.Mathlib.Omega.{arith}
 use borrow.Author.Needs.{needs}
@@ -7,8 +7,8 @@ use Rattle.scan.proofs.Laws.{autolink-some, autolink-long}
 use Rattle.links.specs.Linked.{sheetOf}
 use Rattle.rooms.specs.Standing.{viewed, here}
 use Rattle.outside.proofs.Ahead.{scan-within, angle-else, angle-some}
-use Rattle.outside.proofs.angle.Statement.{statement}
-use Rattle.outside.proofs.angle.Tie as tie
+use Rattle.outside.proofs.parse_autolink.Statement.{statement}
+use Rattle.outside.proofs.parse_autolink.Tie as tie
 
 ahead-autolink-requires : tie.Need-ahead-autolink-requires
 ahead-autolink-requires c κs = search needs
@@ -22,8 +22,8 @@ enum-told c = search needs
 plain-requires : tie.Need-plain-requires
 plain-requires c κs = search needs
 
-container-requires : tie.Need-container-requires
-container-requires c κs = search needs
+parse-container-requires : tie.Need-parse-container-requires
+parse-container-requires c κs = search needs
 
 same-length : tie.Need-same-length
 same-length c = search needs
@@ -37,12 +37,12 @@ same-length-3 c = search needs
 returns : tie.Need-returns
 returns c rules =
     let args = c .before .before .before .before .before .before .before .before .before .before .before .before .before .before .before .before .before .before .before .args in
-    let container = c .before .before .before .before .before .before .container in
+    let parse-container = c .before .before .before .before .before .before .parse-container in
     let ahead-autolink = c .before .before .before .before .before .before .before .before .before .before .before .before .before .ahead-autolink in
     let enum-told = c .before .before .before .before .before .before .before .before .before .before .before .enum-told in
     let plain = c .before .before .before .before .before .before .before .before .before .before .plain in
-    angle-else (sheetOf rules (args .text .now) (args .labels .now)) (viewed (args .m) (args .line .now)) (here (args .h) (args .p)) (args .p) (args .queue .now) (args .openers .now) (args .labels .now) (container .result) (container .last .1 .1 .1 .1 .1 .1 .0) (container .last .1 .1 .1 .1 .1 .1 .1 .0) (container .last .1 .1 .1 .1 .1 .1 .1 .1 .0)
-    _ (sym (ahead-autolink .ensures) ∙ enum-told .given .1) (plain .result) (plain .ensures) (container .ensures rules)
+    angle-else (sheetOf rules (args .text .now) (args .labels .now)) (viewed (args .m) (args .line .now)) (here (args .h) (args .p)) (args .p) (args .queue .now) (args .openers .now) (args .labels .now) (parse-container .result) (parse-container .last .1 .1 .1 .1 .1 .1 .0) (parse-container .last .1 .1 .1 .1 .1 .1 .1 .0) (parse-container .last .1 .1 .1 .1 .1 .1 .1 .1 .0)
+    _ (sym (ahead-autolink .ensures) ∙ enum-told .given .1) (plain .result) (plain .ensures) (parse-container .ensures rules)
 
 autolinked-requires : tie.Need-autolinked-requires
 autolinked-requires c κs =
@@ -69,15 +69,15 @@ returns-2 c rules =
     angle-some (sheetOf rules (args .text .now) (args .labels .now)) (viewed (args .m) (args .line .now)) (here (args .h) (args .p)) (args .p) (args .queue .now) (args .openers .now) (args .labels .now) (autolinked .result) (autolinked .last .1 .1 .1 .1 .0) (pre .1 .labels) _
     _ (sym (ahead-autolink .ensures) ∙ n .given .1) (autolinked .ensures (args .openers .now) (args .line .now))
 
-pub angle-spec : {M : Type 1} → statement M
-angle-spec =
+pub parse-autolink-spec : {M : Type 1} → statement M
+parse-autolink-spec =
     tie.close
     (tie.spec
     ahead-autolink-requires
     enum-known-n
     enum-told
     plain-requires
-    container-requires
+    parse-container-requires
     same-length
     same-length-2
     same-length-3

@@ -1,4 +1,4 @@
--- `outside::colon` meets its contract, by the laws of `Ahead`.
+-- `outside::parse_symbol` meets its contract, by the laws of `Ahead`.
 use mathlib.Core.Path.{sym, _∙_}
 use native.Mathlib.Omega.{arith}
 use borrow.Author.Needs.{needs}
@@ -7,8 +7,8 @@ use Rattle.scan.proofs.Laws.{symbol-some}
 use Rattle.links.specs.Linked.{sheetOf}
 use Rattle.rooms.specs.Standing.{viewed, here}
 use Rattle.outside.proofs.Ahead.{scan-within, colon-else, colon-some}
-use Rattle.outside.proofs.colon.Statement.{statement}
-use Rattle.outside.proofs.colon.Tie as tie
+use Rattle.outside.proofs.parse_symbol.Statement.{statement}
+use Rattle.outside.proofs.parse_symbol.Tie as tie
 
 ahead-symbol-requires : tie.Need-ahead-symbol-requires
 ahead-symbol-requires c κs = search needs
@@ -22,8 +22,8 @@ enum-told c = search needs
 plain-requires : tie.Need-plain-requires
 plain-requires c κs = search needs
 
-container-requires : tie.Need-container-requires
-container-requires c κs = search needs
+parse-container-requires : tie.Need-parse-container-requires
+parse-container-requires c κs = search needs
 
 same-length : tie.Need-same-length
 same-length c = search needs
@@ -37,12 +37,12 @@ same-length-3 c = search needs
 returns : tie.Need-returns
 returns c rules =
     let args = c .before .before .before .before .before .before .before .before .before .before .before .before .before .before .before .before .before .before .before .args in
-    let container = c .before .before .before .before .before .before .container in
+    let parse-container = c .before .before .before .before .before .before .parse-container in
     let ahead-symbol = c .before .before .before .before .before .before .before .before .before .before .before .before .before .ahead-symbol in
     let enum-told = c .before .before .before .before .before .before .before .before .before .before .before .enum-told in
     let plain = c .before .before .before .before .before .before .before .before .before .before .plain in
-    colon-else (sheetOf rules (args .text .now) (args .labels .now)) (viewed (args .m) (args .line .now)) (here (args .h) (args .p)) (args .p) (args .queue .now) (args .openers .now) (args .labels .now) (container .result) (container .last .1 .1 .1 .1 .1 .1 .0) (container .last .1 .1 .1 .1 .1 .1 .1 .0) (container .last .1 .1 .1 .1 .1 .1 .1 .1 .0)
-    _ (sym (ahead-symbol .ensures) ∙ enum-told .given .1) (plain .result) (plain .ensures) (container .ensures rules)
+    colon-else (sheetOf rules (args .text .now) (args .labels .now)) (viewed (args .m) (args .line .now)) (here (args .h) (args .p)) (args .p) (args .queue .now) (args .openers .now) (args .labels .now) (parse-container .result) (parse-container .last .1 .1 .1 .1 .1 .1 .0) (parse-container .last .1 .1 .1 .1 .1 .1 .1 .0) (parse-container .last .1 .1 .1 .1 .1 .1 .1 .1 .0)
+    _ (sym (ahead-symbol .ensures) ∙ enum-told .given .1) (plain .result) (plain .ensures) (parse-container .ensures rules)
 
 named-requires : tie.Need-named-requires
 named-requires c κs =
@@ -69,15 +69,15 @@ returns-2 c rules =
     colon-some (sheetOf rules (args .text .now) (args .labels .now)) (viewed (args .m) (args .line .now)) (here (args .h) (args .p)) (args .p) (args .queue .now) (args .openers .now) (args .labels .now) (named .result) (named .last .1 .1 .1 .1 .1 .0) (pre .1 .labels) _
     _ (sym (ahead-symbol .ensures) ∙ n .given .1) (named .ensures (args .openers .now) (args .line .now))
 
-pub colon-spec : {M : Type 1} → statement M
-colon-spec =
+pub parse-symbol-spec : {M : Type 1} → statement M
+parse-symbol-spec =
     tie.close
     (tie.spec
     ahead-symbol-requires
     enum-known-n
     enum-told
     plain-requires
-    container-requires
+    parse-container-requires
     same-length
     same-length-2
     same-length-3
