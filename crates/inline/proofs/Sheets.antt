@@ -1,16 +1,17 @@
 -- The lines of a sheet: those that are left, from the state at hand, give what all of them give.
 use Prim.Native.Nat.{ℕ, zero, suc, _+_, _-_, _*_, _^_, _≤_, _<_}
+use Prim.Native.Char.{code}
 use mathlib.Core.Path.{_≡_, refl, sym, ap, _∙_, subst}
 use mathlib.Core.List.{List, [], _∷_}
 use native.Mathlib.Numerals.{add-one}
 use native.Mathlib.Omega.{arith}
-use lib.ListN.{length, getD, drop, drop-of-length-le}
+use lib.ListN.{length, getD, drop, replicate, drop-of-length-le}
 use Rattle.reading.specs.declared.Line.{Line}
 use Rattle.reading.specs.declared.Refused.{Refused}
 use Rattle.reading.specs.declared.Refused.the-variants as refused
 use Rattle.reading.specs.Machine.{Sheet, State, Turn, byte-before, viewOf}
 use Rattle.reading.specs.Reading.{line as line-of, lines, read, start, end-of, views, sheet}
-use Rattle.reading.specs.Questions.{total}
+use Rattle.reading.specs.Questions.{total, first-outside, first-early}
 use Rattle.reading.proofs.Braces.{Outside, line-outside, start-outside, links-line}
 use Rattle.reading.proofs.Feeding as feeding
 use Rattle.reading.proofs.Feeding.{Rising, Apart, view-long, view-shows, start-stood, line-stood}
@@ -220,3 +221,17 @@ module _ (text starts ends : List ℕ) (reading : ℕ) (q₀ o₀ l₀ : List �
             same = ap (λ (a : Turn). a .state) (c .same l) ∙ ap (λ (b : ℕ). ending b (stands p q o l)) same-end ∙ ap (ending (end-of ls 0)) same-all;
             labels = omega (arith, c .labels, h .labels);
           }
+
+-- what `parse` asks can be met: `*a*`, in rooms of the stated sizes
+pub asked-row : Sheeted (code "*" ∷ code "a" ∷ code "*" ∷ []) (0 ∷ []) (3 ∷ []) (replicate 56 0) (replicate 12 0) []
+unfolding lines-of total first-outside first-early
+asked-row =
+    record {
+      paired = refl;
+      small = omega arith;
+      listed = omega arith;
+      fed = record { inside = refl; apart = refl };
+      room = omega arith;
+      stack = omega arith;
+      label-room = omega arith;
+    }
