@@ -153,7 +153,7 @@ fn finish(end: usize, p: Parser, queue: &mut [u32]) -> Parser
     }
 }
 
-// All lines of a sheet, each from its start to before its end, and the end.
+// All lines of a sheet, each from its start to before its end, and the end. The cursor that is handed back is of no line any more.
 pub fn parse(
     text: &[u8],
     starts: &[usize],

@@ -44,12 +44,6 @@ struct Joint {
     apart: bool,
 }
 
-fn wide(x: u32) -> usize
-    ensures { λ r. ⌜ r ≡ x ⌝ }
-{
-    x as usize
-}
-
 // The bytes of the text from a place to another.
 fn part(text: &[u8], from: usize, to: usize) -> &[u8]
     ensures { λ r. ⌜ now r ≡ partOf (now (text .entry)) from to ⌝ }
@@ -120,7 +114,11 @@ fn word(text: &[u8], e: Event, labels: &mut [u8], used: usize) -> Built
     }
     let start = e.start;
     let end = e.end;
-    copy(part(text, wide(start.0), wide(end.0)), labels, used)
+    copy(
+        part(text, rooms::wide(start.0), rooms::wide(end.0)),
+        labels,
+        used,
+    )
 }
 
 // The events of the link's text, of the first n those from a place on.
@@ -226,7 +224,7 @@ fn stretch(text: &[u8], e: Event, at: u32, labels: &mut [u8], j: Joint, inline: 
 {
     let start = e.start;
     let end = e.end;
-    let s = part(text, wide(start.0), wide(end.0));
+    let s = part(text, rooms::wide(start.0), rooms::wide(end.0));
     bytes(s, labels, reached(j, at, start.0), inline)
 }
 
@@ -358,7 +356,7 @@ pub fn label_of(
     let at = d.at;
     let link = d.link;
     let by_text = !d.inline & (end.0 == at.0);
-    if !by_text & (d.base <= wide(start.0)) {
+    if !by_text & (d.base <= rooms::wide(start.0)) {
         return home_in_text(end, at, link, used, fits);
     }
     if !fits {

@@ -187,7 +187,8 @@ pub fn shorten(queue: &mut [u32], i: usize, bytes: u32)
     store(queue, i, out);
 }
 
-fn wide(x: u32) -> usize
+// A number of a room as a place in one.
+pub fn wide(x: u32) -> usize
     ensures { λ r. ⌜ r ≡ x ⌝ }
 {
     x as usize
