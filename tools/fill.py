@@ -83,7 +83,7 @@ def fill(function, answers):
             sys.exit(f"{function}: no need {need}; there are {' '.join(needs)}")
         term = bound(body, needs[need], f"{function} {need}")
         text = f"{text[:m.start()]}{need} {params or m.group(1).strip()} ={term}\n{text[m.end():]}"
-    if "search needs" in text and "borrow.Author.Needs" not in text:
+    if re.search(r"search \(?needs", text) and "borrow.Author.Needs" not in text:
         text = "use borrow.Author.Needs.{needs}\n" + text
     open(proof, "w").write(text)
 

@@ -1,3 +1,4 @@
 pub mod Taking
 pub mod Turning
+pub mod Pairs
 pub mod Sheets

@@ -1,5 +1,5 @@
 -- The lines of a sheet: those that are left, from the state at hand, give what all of them give.
-use Prim.Native.Nat.{ℕ, zero, suc, _+_, _-_, _*_, _^_, _≤_, _<_}
+use Prim.Native.Nat.{ℕ, suc, _+_, _-_, _*_, _^_, _≤_, _<_}
 use Prim.Native.Char.{code}
 use mathlib.Core.Path.{_≡_, refl, sym, ap, _∙_, subst}
 use mathlib.Core.List.{List, [], _∷_}
@@ -21,26 +21,13 @@ use Rattle.rooms.specs.declared.Margin.{Margin}
 use Rattle.rooms.specs.Records.{eventAt}
 use Rattle.rooms.specs.Standing.{stands, staying, Changed}
 use Rattle.rooms.proofs.Rows.{rows-length}
-use Rattle.inline.specs.Asks.{Lined, StandsFor, Sheeted, Closing, ending, lines-of}
+use Rattle.inline.specs.Asks.{Lined, StandsFor, Sheeted, Closing, ending}
+use Rattle.inline.specs.Lines.{lines-of}
+use Rattle.inline.proofs.Pairs.{lines-length, lines-at}
 use Rattle.inline.proofs.Turning.{good-opened}
 
--- the line records of two lists of one length
-lines-length : (ss es : List ℕ) → length ss ≡ length es → length (lines-of ss es) ≡ length ss
-unfolding lines-of
-lines-length [] es h = refl
-lines-length (a ∷ ss) [] h = absurd (omega arith)
-lines-length (a ∷ ss) (b ∷ es) h = ap suc (lines-length ss es (omega arith))
-
-lines-at : (ss es : List ℕ) (i : ℕ) → length ss ≡ length es → i < length ss
-    → drop i (lines-of ss es) ≡ record { start = getD ss i 0; end = getD es i 0 } ∷ drop (suc i) (lines-of ss es)
-unfolding lines-of
-lines-at [] es i h l = absurd (omega arith)
-lines-at (a ∷ ss) [] i h l = absurd (omega arith)
-lines-at (a ∷ ss) (b ∷ es) zero h l = refl
-lines-at (a ∷ ss) (b ∷ es) (suc i) h l = lines-at ss es i (omega arith) (omega arith)
-
 -- lines one behind another are no longer than the text
-rising-total : (text : List ℕ) (a : ℕ) (ls : List Line) → a ≤ length text → Rising text a ls → a + total ls ≤ length text
+pub rising-total : (text : List ℕ) (a : ℕ) (ls : List Line) → a ≤ length text → Rising text a ls → a + total ls ≤ length text
 unfolding Rising total
 rising-total text a [] h r = omega arith
 rising-total text a (l ∷ ls) h r = omega (arith, r .0, r .1, rising-total text (l .end) ls (r .2) (r .3))
@@ -108,7 +95,7 @@ module _ (text starts ends : List ℕ) (reading : ℕ) (q₀ o₀ l₀ : List �
       more = drop (suc i) ls
 
       cons : drop i ls ≡ here ∷ more
-      cons = lines-at starts ends i (w .paired) some
+      cons = lines-at starts ends i some (omega (arith, w .paired, some))
 
       up : Rising text (h .at) (here ∷ more)
       up = subst (λ (ms : List Line). Rising text (h .at) ms) cons (h .rest)

@@ -1,12 +1,11 @@
 -- What the parser asks of its rooms, at a token, at a line and at a sheet; and what it is told by.
 use Prim.Native.Nat.{ℕ, _+_, _-_, _*_, _^_, _≤_, _<_}
 use mathlib.Core.Path.{_≡_}
-use mathlib.Core.List.{List, [], _∷_}
+use mathlib.Core.List.{List}
 use mathlib.Core.Bool.{Bool, true}
 use lib.Dec.{leb}
 use lib.ListN.{length}
 use Rattle.lex.proofs.Laws.{Sound}
-use Rattle.reading.specs.declared.Line.{Line}
 use Rattle.reading.specs.declared.Inside.the-variants as inside
 use Rattle.reading.specs.declared.Refused.{Refused}
 use Rattle.reading.specs.declared.Refused.the-variants as refused
@@ -25,6 +24,7 @@ use Rattle.rooms.specs.Records.{opens}
 use Rattle.rooms.specs.Standing.{stands, viewed}
 use Rattle.verbatim.specs.Opened.{OpenedBy}
 use Rattle.outside.specs.Outside.{Ended}
+use Rattle.inline.specs.Lines.{lines-of}
 
 -- at a token: a sound cursor, and rooms for what the rest of the line can give
 pub record Before (line : List ℕ) (m : Margin) (p : Parser) (q o l : List ℕ) : Type 0 where
@@ -60,12 +60,6 @@ pub record Lined (text line : List ℕ) (m : Margin) (reading : ℕ) (p : Parser
 pub record StandsFor (r : Parser) (q o l : List ℕ) (s : State) : Type 0 where
   pub same : stands r q o l ≡ s
   pub labels : r .labels ≤ length l
-
--- the line records of starts and ends
-unfoldable pub lines-of : List ℕ → List ℕ → List Line
-lines-of [] es = []
-lines-of (a ∷ more) [] = []
-lines-of (a ∷ more) (b ∷ bs) = record { start = a; end = b } ∷ lines-of more bs
 
 -- a sheet that passes questions 2 to 6 of document 01, with a label room of 32 bits
 pub record Sheeted (text starts ends q o l : List ℕ) : Type 0 where

@@ -1,0 +1,200 @@
+-- What stands in the rooms at the end: cleared ones, events and labels from the front; and the label room that counts.
+use Prim.Native.Nat.{ℕ, _+_, _-_, _*_, _/_, _^_, _≤_, _<_}
+use mathlib.Core.Path.{_≡_, refl, sym, ap, _∙_}
+use mathlib.Core.List.{List, [], _∷_, _++_, append-nil}
+use mathlib.Core.Logic.{⊎-elim}
+use mathlib.Core.Bool.{Bool, true, false}
+use native.Mathlib.Nat.{eq-or-lt-of-le}
+use native.Mathlib.Numerals.{add-one}
+use native.Mathlib.Omega.{arith}
+use borrow.Author.Tests.{leb-true, leb-false}
+use lib.Dec.{leb}
+use lib.ListN.{length, take, drop, set, replicate, length-append, length-drop, length-set, drop-of-length-le, replicate-append-replicate}
+use lib.Seq.{length-take-le, take-append-le, take-all, take-at, take-suc-set}
+use Rattle.reading.specs.declared.Answer.{Answer}
+use Rattle.reading.specs.declared.Event.{Event}
+use Rattle.reading.specs.declared.Refused.{Refused}
+use Rattle.reading.specs.declared.Refused.the-variants as refused
+use Rattle.reading.specs.Machine.{State}
+use Rattle.reading.specs.Draining.{drain}
+use Rattle.reading.specs.Reading.{sheet, read}
+use Rattle.reading.specs.Questions.{total, label-room, zeros, filled, numbers, refuses, cleared, handed-out, judged}
+use Rattle.reading.proofs.Theorems.{end-room, room, rising}
+use Rattle.rooms.specs.declared.Parser.{Parser}
+use Rattle.rooms.specs.Records.{events, eventAt}
+use Rattle.rooms.proofs.Rows.{rows-length}
+use Rattle.inline.specs.Lines.{lines-of}
+use Rattle.inline.specs.Asks.{Sheeted, StandsFor}
+use Rattle.inline.proofs.Sheets.{rising-total}
+use Rattle.drain.specs.declared.Drained.the-variants.{All, Full}
+use Rattle.drain.specs.Handing.{answered, handed}
+use Rattle.drain.proofs.Handing.{answered-count, answered-too-many, handed-all}
+use Rattle.drain.proofs.Pouring.{numbers-length}
+use Rattle.reader.specs.Asking.{Passed, refusal}
+use Rattle.reader.specs.Telling.{lent, told, kept, accepts, Parsed}
+
+-- a room whose first i numbers are cleared
+pub record Clearing (room₀ room : List ℕ) (i : ℕ) : Type 0 where
+  pub within : i ≤ length room₀
+  pub long : length room ≡ length room₀
+  pub front : take i room ≡ replicate i 0
+
+pub clearing-first : (room : List ℕ) → Clearing room room 0
+clearing-first room = record { within = omega arith; long = refl; front = refl }
+
+module _ (room₀ room : List ℕ) (i : ℕ) (w : Clearing room₀ room i) where
+  pub clearing-next : i < length room → Clearing room₀ (set room i 0) (i + 1)
+  clearing-next h =
+      record {
+        within = omega (arith, h, w .long);
+        long = length-set room i 0 ∙ w .long;
+        front =
+            ap (λ (k : ℕ). take k (set room i 0)) (add-one i)
+            ∙ take-suc-set room i 0 h
+            ∙ ap (λ (z : List ℕ). z ++ (0 ∷ [])) (w .front)
+            ∙ replicate-append-replicate i 1 0;
+      }
+
+  pub clearing-end : length room ≤ i → room ≡ zeros room₀
+  clearing-end h =
+      let e : i ≡ length room₀ = omega (arith, h, w .within, w .long) in
+      sym (take-all i room h) ∙ w .front ∙ ap (λ (k : ℕ). replicate k 0) e
+
+-- a part behind n numbers, cleared and put back
+pub kept-all : (n : ℕ) (room part : List ℕ) → n ≤ length room → part ≡ zeros (take (length room - n) (drop n room))
+    → take n room ++ (part ++ drop (length room - n) (drop n room)) ≡ kept n room
+kept-all n room part h e =
+    let d : length (drop n room) ≡ length room - n = length-drop n room in
+    let z : drop (length room - n) (drop n room) ≡ [] = drop-of-length-le (drop n room) {i = length room - n} (omega (arith, d)) in
+    let t : length (take (length room - n) (drop n room)) ≡ length room - n = length-take-le (length room - n) (drop n room) (omega (arith, d)) in
+    ap (λ (m : List ℕ). take n room ++ m) (ap (λ (m : List ℕ). part ++ m) z ∙ append-nil part ∙ e ∙ ap (λ (k : ℕ). replicate k 0) t)
+
+module _ (e q o l : List ℕ) where
+  -- a refusal under 7 to 9
+  pub refused-all : (code place : ℕ) (r : Answer) (e' q' o' l' : List ℕ) → r ≡ refusal code place → e' ≡ zeros e → q' ≡ zeros q → o' ≡ zeros o → l' ≡ zeros l
+      → told r e' q' o' l' ≡ refuses code place (cleared (lent e q o l))
+  refused-all code place r e' q' o' l' a b c d f = rw (a, b, c, d, f)
+
+  -- an acceptance
+  pub accepted-all : (count bytes : ℕ) (e' q' o' l' : List ℕ) → e' ≡ kept (count * 7) e → q' ≡ zeros q → o' ≡ zeros o → l' ≡ kept bytes l
+      → told (record { code = 0; place = 0; events = count; labels = bytes }) e' q' o' l' ≡ accepts count bytes (lent e q o l)
+  accepted-all count bytes e' q' o' l' b c d f = rw (b, c, d, f)
+
+  abbrev answer : ℕ → ℕ → Answer
+  answer count bytes = record { code = 0; place = 0; events = count; labels = bytes }
+
+  module _ (es : List Event) (e₁ : List ℕ) (given : e₁ ≡ handed es e) (ls : List ℕ) where
+    -- the events fit
+    pub handed-fit : (count bytes : ℕ) → ls ≡ take bytes l → bytes ≤ length l → All count ≡ answered (length es) (length e / 7)
+        → (count * 7 ≤ length e₁) × (count ≡ length es) × (accepts count bytes (lent e₁ q o l) ≡ handed-out es ls (lent e q o l))
+    unfolding handed-out
+    handed-fit count bytes f b a =
+        let k = answered-count (length es) (length e / 7) count (sym a) in
+        let n : length (numbers es) ≡ count * 7 = numbers-length es ∙ ap (λ (z : ℕ). z * 7) (sym (k .0)) in
+        let w : e₁ ≡ numbers es ++ drop (length (numbers es)) e = given ∙ handed-all es e (k .1) in
+        let c : count * 7 ≤ length e = omega (arith, k .0, leb-true (length es) (length e / 7) (k .1)) in
+        let u : length e₁ ≡ length e =
+        ap (λ (z : List ℕ). length z) w
+        ∙ length-append (numbers es) (drop (length (numbers es)) e)
+        ∙ omega (arith, length-drop (length (numbers es)) e, n, c) in
+        let d : length e₁ - count * 7 ≡ length e - length (numbers es) = omega (arith, u, n) in
+        let front : kept (count * 7) e₁ ≡ filled (numbers es) e =
+        ap (λ (z : List ℕ). z ++ replicate (length e₁ - count * 7) 0) (ap (λ (z : List ℕ). take (count * 7) z) w ∙ take-at (numbers es) _ (count * 7) n)
+        ∙ ap (λ (m : ℕ). numbers es ++ replicate m 0) d in
+        let b' : length ls ≡ bytes = ap (λ (z : List ℕ). length z) f ∙ length-take-le bytes l b in
+        let back : kept bytes l ≡ filled ls l =
+        ap (λ (z : List ℕ). z ++ replicate (length l - bytes) 0) (sym f) ∙ ap (λ (m : ℕ). ls ++ replicate (length l - m) 0) (sym b') in (
+          omega (arith, c, u),
+          k .0,
+          ap (λ (z : List ℕ). told (answer count bytes) z (zeros q) (zeros o) (kept bytes l)) front
+              ∙ ap (λ (z : List ℕ). told (answer count bytes) (filled (numbers es) e) (zeros q) (zeros o) z) back
+              ∙ ap (λ (m : ℕ). told (answer m bytes) (filled (numbers es) e) (zeros q) (zeros o) (filled ls l)) (k .0)
+              ∙ ap (λ (m : ℕ). told (answer (length es) m) (filled (numbers es) e) (zeros q) (zeros o) (filled ls l)) (sym b')
+              ∙ rw (k .1, handed-out),
+        )
+
+    -- they do not
+    pub handed-full : Full ≡ answered (length es) (length e / 7) → length e₁ ≡ length e
+        → refuses 9 0 (cleared (lent e₁ q o l)) ≡ handed-out es ls (lent e q o l)
+    unfolding handed-out
+    handed-full a u = rw (answered-too-many (length es) (length e / 7) (sym a), u, handed-out)
+
+-- the last questions look at no number of the queue, opener and label rooms
+pub judged-lent : (r : Refused) (f : Bool) (s : State) (e q o l q' o' l' : List ℕ) → length q' ≡ length q → length o' ≡ length o → length l' ≡ length l
+    → judged r f s (lent e q' o' l') ≡ judged r f s (lent e q o l)
+unfolding judged handed-out
+judged-lent (refused.At p) f s e q o l q' o' l' a b c = rw (a, b, c)
+judged-lent refused.No false s e q o l q' o' l' a b c = rw (a, b, c)
+judged-lent refused.No true s e q o l q' o' l' a b c = go (leb (length (drain (s .queue))) (length e / 7)) refl
+  where
+    go : (t : Bool) → leb (length (drain (s .queue))) (length e / 7) ≡ t
+        → handed-out (drain (s .queue)) (s .labels) (lent e q' o' l') ≡ handed-out (drain (s .queue)) (s .labels) (lent e q o l)
+    go true h = rw (h, handed-out) (rw (a, b, c))
+    go false h = rw (h, handed-out) (rw (a, b, c))
+
+-- of a longer label room only so many bytes count
+pub room-counts : (l : List ℕ) (n : ℕ) → (n ≤ length l) × (n ≤ 4294967295) × (n < length l → n ≡ 4294967295) → n ≡ label-room l
+room-counts l n h = go (leb (length l) 4294967295) refl
+  where
+    go : (b : Bool) → leb (length l) 4294967295 ≡ b → n ≡ label-room l
+    go true e =
+        ⊎-elim (λ (d : n ≡ length l). d) (λ (d : n < length l). omega (arith, h .2 d, d, leb-true (length l) 4294967295 e)) (eq-or-lt-of-le (h .0)) ∙ rw (e, label-room)
+    go false e =
+        ⊎-elim (λ (d : n ≡ length l). absurd (omega (arith, d, h .1, leb-false (length l) 4294967295 e))) (λ (d : n < length l). h .2 d) (eq-or-lt-of-le (h .0))
+        ∙ rw (e, label-room)
+
+-- the label room that counts
+module _ (text starts ends : List ℕ) (reading : ℕ) (q o l : List ℕ) (w : Passed text starts ends q o) (n : ℕ) (counts : n ≡ label-room l) where
+  within : (n ≤ length l) × (n ≤ 4294967295)
+  within = go (leb (length l) 4294967295) refl
+    where
+      go : (b : Bool) → leb (length l) 4294967295 ≡ b → (n ≤ length l) × (n ≤ 4294967295)
+      go true e = let z : n ≡ length l = counts ∙ rw (e, label-room) in (omega (arith, z), omega (arith, z, leb-true (length l) 4294967295 e))
+      go false e = let z : n ≡ 4294967295 = counts ∙ rw (e, label-room) in (omega (arith, z, leb-false (length l) 4294967295 e), omega (arith, z))
+
+  long : length (take n l) ≡ n
+  long = length-take-le n l (within .0)
+
+  pub sheeted : Sheeted text starts ends q o (take n l)
+  sheeted =
+      record {
+        paired = w .paired;
+        small = w .small;
+        listed = w .listed;
+        fed = w .fed;
+        room = w .room;
+        stack = w .stack;
+        label-room = omega (arith, long, within .1);
+      }
+
+  -- what stands in it stands in the room lent
+  pub stood : (p : Parser) (q' o' l' l'' : List ℕ) → StandsFor p q' o' l' (read (sheet text reading (length (take n l))) (lines-of starts ends))
+      → length l' ≡ length (take n l) → l'' ≡ l' ++ drop n l
+      → StandsFor p q' o' l'' (read (sheet text reading (label-room l)) (lines-of starts ends)) × (p .labels < 2 ^ 32)
+  stood p q' o' l' l'' s k e =
+      let t : take (p .labels) l'' ≡ take (p .labels) l' = ap (λ (z : List ℕ). take (p .labels) z) e ∙ take-append-le (p .labels) l' (drop n l) (s .labels) in (
+        record {
+          same = rw t (s .same) ∙ ap (λ (m : ℕ). read (sheet text reading m) (lines-of starts ends)) (long ∙ counts);
+          labels = omega (arith, s .labels, ap (λ (z : List ℕ). length z) e, length-append l' (drop n l));
+        },
+        omega (arith, s .labels, k, long, within .1),
+      )
+
+-- a parser that stands for the reading of lines that passed has its counts in its rooms
+pub parsed : (text starts ends : List ℕ) (reading : ℕ) (q o l : List ℕ) → Passed text starts ends q o → (p : Parser) (q' o' l' : List ℕ)
+    → StandsFor p q' o' l' (read (sheet text reading (label-room l)) (lines-of starts ends)) → p .labels < 2 ^ 32 → length q' ≡ length q
+    → Parsed p q' l'
+parsed text starts ends reading q o l w p q' o' l' s b k =
+    let n : p .events ≡ length (read (sheet text reading (label-room l)) (lines-of starts ends) .queue) =
+    sym (rows-length eventAt (p .events) q') ∙ ap (λ (z : State). length (z .queue)) (s .same) in
+    let t : total (lines-of starts ends) ≤ length text = omega (arith, rising-total text 0 (lines-of starts ends) (omega arith) (rising text 0 (lines-of starts ends) (w .fed .inside) (w .fed .apart))) in
+    record {
+      queued = omega (arith, n, end-room (sheet text reading (label-room l)) (lines-of starts ends) (w .fed) .0, w .room, k);
+      few =
+          λ r.
+          let m = room (sheet text reading (label-room l)) (lines-of starts ends) (w .fed) (sym (ap (λ (z : State). z .refused) (s .same)) ∙ r) in
+          let d : length (drain (events (p .events) q')) ≡ length (drain (read (sheet text reading (label-room l)) (lines-of starts ends) .queue)) = ap (λ (z : State). length (drain (z .queue))) (s .same) in
+          omega (arith, d, m, t, w .small);
+      labels = s .labels;
+      bytes = b;
+    }

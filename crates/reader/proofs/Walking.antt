@@ -1,0 +1,249 @@
+-- The walk over the lines asks questions 3 and 4 of the definition.
+use Prim.Native.Nat.{ℕ, suc, _+_, _-_, _*_, _^_, _≤_, _<_}
+use mathlib.Core.Path.{_≡_, refl, sym, ap, _∙_, subst}
+use mathlib.Core.List.{List, [], _∷_}
+use mathlib.Core.Bool.{Bool, true, false, _&&_}
+use mathlib.Core.Logic.{_⊎_, inl, inr, ⊎-elim}
+use native.Mathlib.Nat.{eq-or-lt-of-le, zero-add}
+use native.Mathlib.Numerals.{add-one}
+use native.Mathlib.Omega.{arith}
+use borrow.Author.Tests.{ltb-true, ltb-false, leb-true, leb-false, lt-ltb, le-ltb}
+use lib.Dec.{leb, ltb}
+use lib.ListN.{length, getD, drop, drop-of-length-le}
+use Rattle.reading.specs.declared.Line.{Line}
+use Rattle.reading.specs.Questions.{total, first-outside, first-early}
+use Rattle.inline.specs.Lines.{lines-of, unpaired}
+use Rattle.inline.proofs.Pairs.{lines-length, lines-many, lines-at, no-end, no-start}
+use Rattle.inline.proofs.Sheets.{rising-total}
+use Rattle.reading.proofs.Theorems.{rising}
+use Rattle.reader.specs.declared.Lines.{Lines}
+use Rattle.reader.specs.declared.Lines.the-variants as lines
+use Rattle.reader.specs.declared.Early.{Early}
+use Rattle.reader.specs.declared.Early.the-variants as early
+use Rattle.reader.specs.declared.Walk.{Walk}
+use Rattle.reader.specs.declared.Walked.the-variants as walked
+use Rattle.reader.specs.Asking.{linesSaid, earlyOf, onward, lineOf, endedOf, rest, Small}
+
+ltb-suc : (a b : ℕ) → ltb (suc a) (suc b) ≡ ltb a b
+ltb-suc a b = go (ltb a b) refl
+  where
+    go : (t : Bool) → ltb a b ≡ t → ltb (suc a) (suc b) ≡ t
+    go true e = lt-ltb (suc a) (suc b) (omega (arith, ltb-true a b e))
+    go false e = le-ltb (suc a) (suc b) (omega (arith, ltb-false a b e))
+
+-- no line starts early before one is found
+early-leb : (i a b : ℕ) → earlyOf early.No i a b ≡ elim (leb b a) [ true ↦ early.No | false ↦ early.At i ]
+unfolding earlyOf
+early-leb i a b = go (leb b a) refl
+  where
+    go : (t : Bool) → leb b a ≡ t → earlyOf early.No i a b ≡ elim t [ true ↦ early.No | false ↦ early.At i ]
+    go true e = rw (le-ltb a b (leb-true b a e), earlyOf)
+    go false e = rw (lt-ltb a b (leb-false b a e), earlyOf)
+
+module _ (text : List ℕ) where
+  abbrev walk : ℕ → ℕ → Early → Walk
+  walk a t e = record { end = a; total = t; early = e }
+
+  -- the first line outside the text, if there is one
+  abbrev out : Bool → ℕ → Lines → Lines
+  out t m d = elim t [ true ↦ lines.Outside m | false ↦ d ]
+
+  abbrev next : Bool → ℕ → ℕ
+  next t m = elim t [ true ↦ suc m | false ↦ 0 ]
+
+  out-next : (i m k : ℕ) (d : Lines) → out (ltb m k) (suc i + m) d ≡ out (ltb (suc m) (suc k)) (i + suc m) d
+  out-next i m k d =
+      let e : suc i + m ≡ i + suc m = omega arith in
+      ap (λ (z : ℕ). out (ltb m k) z d) e ∙ ap (λ (t : Bool). out t (i + suc m) d) (sym (ltb-suc m k))
+
+  out-here : (i k : ℕ) (d : Lines) → lines.Outside i ≡ out (ltb 0 (suc k)) (i + 0) d
+  out-here i k d =
+      let e : i ≡ i + 0 = omega arith in
+      ap (λ (z : ℕ). lines.Outside z) e ∙ ap (λ (t : Bool). out t (i + 0) d) (sym (lt-ltb 0 (suc k) (omega arith)))
+
+  -- behind an early line only one outside the text is looked for
+  late : (ls : List Line) (i k a t : ℕ)
+      → rest (length text) i (walk a t (early.At k)) ls ≡ out (ltb (first-outside text ls) (length ls)) (i + first-outside text ls) (lines.Early k)
+  unfolding rest endedOf earlyOf first-outside
+  late [] i k a t = refl
+  late (l ∷ ls) i k a t =
+      go (leb (l .start) (l .end) && leb (l .end) (length text)) (late ls (suc i) k (l .end) (t + (l .end - l .start)))
+    where
+      go : (b : Bool) → rest (length text) (suc i) (walk (l .end) (t + (l .end - l .start)) (early.At k)) ls ≡ out (ltb (first-outside text ls) (length ls)) (suc i + first-outside text ls) (lines.Early k)
+          → _≡_ {A = Lines} (elim b [ true ↦ rest (length text) (suc i) (walk (l .end) (t + (l .end - l .start)) (early.At k)) ls | false ↦ lines.Outside i ])
+          (out (ltb (next b (first-outside text ls)) (suc (length ls))) (i + next b (first-outside text ls)) (lines.Early k))
+      go true h = h ∙ out-next i (first-outside text ls) (length ls) (lines.Early k)
+      go false h = out-here i (length ls) (lines.Early k)
+
+  -- and before one also the first early line
+  abbrev soon : Bool → ℕ → ℕ → Lines
+  soon t k m = elim t [ true ↦ lines.Early k | false ↦ lines.Fed m ]
+
+  on-time : (ls : List Line) (i a t : ℕ)
+      → rest (length text) i (walk a t early.No) ls
+      ≡ out (ltb (first-outside text ls) (length ls)) (i + first-outside text ls) (soon (ltb (first-early a ls) (length ls)) (i + first-early a ls) (t + total ls))
+  unfolding rest endedOf first-outside first-early total
+  on-time [] i a t = let e : t ≡ t + 0 = omega arith in ap (λ (z : ℕ). lines.Fed z) e
+  on-time (l ∷ ls) i a t =
+      go (leb (l .start) (l .end) && leb (l .end) (length text)) (leb a (l .start)) refl (on-time ls (suc i) (l .end) (t + (l .end - l .start)))
+    where
+      step : (e : Bool) → leb a (l .start) ≡ e
+          → rest (length text) (suc i) (walk (l .end) (t + (l .end - l .start)) early.No) ls ≡ out (ltb (first-outside text ls) (length ls)) (suc i + first-outside text ls) (soon (ltb (first-early (l .end) ls) (length ls)) (suc i + first-early (l .end) ls) ((t + (l .end - l .start)) + total ls))
+          → rest (length text) (suc i) (walk (l .end) (t + (l .end - l .start)) (earlyOf early.No i (l .start) a)) ls
+          ≡ out (ltb (suc (first-outside text ls)) (suc (length ls))) (i + suc (first-outside text ls)) (soon (ltb (next e (first-early (l .end) ls)) (suc (length ls))) (i + next e (first-early (l .end) ls)) (t + ((l .end - l .start) + total ls)))
+      step true e h =
+          ap (λ (y : Early). rest (length text) (suc i) (walk (l .end) (t + (l .end - l .start)) y) ls) (early-leb i (l .start) a ∙ rw e)
+          ∙ h
+          ∙ out-next i (first-outside text ls) (length ls) _
+          ∙ ap (λ (d : Lines). out (ltb (suc (first-outside text ls)) (suc (length ls))) (i + suc (first-outside text ls)) d) later
+        where
+          later : soon (ltb (first-early (l .end) ls) (length ls)) (suc i + (first-early (l .end) ls)) ((t + (l .end - l .start)) + total ls) ≡ soon (ltb (suc (first-early (l .end) ls)) (suc (length ls))) (i + suc (first-early (l .end) ls)) (t + ((l .end - l .start) + total ls))
+          later =
+              let e₁ : suc i + (first-early (l .end) ls) ≡ i + suc (first-early (l .end) ls) = omega arith in
+              let e₂ : (t + (l .end - l .start)) + total ls ≡ t + ((l .end - l .start) + total ls) = omega arith in
+              ap (λ (b' : Bool). soon b' (suc i + (first-early (l .end) ls)) ((t + (l .end - l .start)) + total ls)) (sym (ltb-suc (first-early (l .end) ls) (length ls)))
+              ∙ ap (λ (z : ℕ). soon (ltb (suc (first-early (l .end) ls)) (suc (length ls))) z ((t + (l .end - l .start)) + total ls)) e₁
+              ∙ ap (λ (z : ℕ). soon (ltb (suc (first-early (l .end) ls)) (suc (length ls))) (i + suc (first-early (l .end) ls)) z) e₂
+      step false e h =
+          ap (λ (y : Early). rest (length text) (suc i) (walk (l .end) (t + (l .end - l .start)) y) ls) (early-leb i (l .start) a ∙ rw e)
+          ∙ late ls (suc i) i (l .end) (t + (l .end - l .start))
+          ∙ out-next i (first-outside text ls) (length ls) _
+          ∙ ap (λ (d : Lines). out (ltb (suc (first-outside text ls)) (suc (length ls))) (i + suc (first-outside text ls)) d) now
+        where
+          now : lines.Early i ≡ soon (ltb 0 (suc (length ls))) (i + 0) (t + ((l .end - l .start) + total ls))
+          now =
+              let e₁ : i ≡ i + 0 = omega arith in
+              ap (λ (z : ℕ). lines.Early z) e₁
+              ∙ ap (λ (b' : Bool). soon b' (i + 0) (t + ((l .end - l .start) + total ls))) (sym (lt-ltb 0 (suc (length ls)) (omega arith)))
+
+      go : (b e : Bool) → leb a (l .start) ≡ e
+          → rest (length text) (suc i) (walk (l .end) (t + (l .end - l .start)) early.No) ls ≡ out (ltb (first-outside text ls) (length ls)) (suc i + first-outside text ls) (soon (ltb (first-early (l .end) ls) (length ls)) (suc i + first-early (l .end) ls) ((t + (l .end - l .start)) + total ls))
+          → _≡_ {A = Lines} (elim b [ true ↦ rest (length text) (suc i) (walk (l .end) (t + (l .end - l .start)) (earlyOf early.No i (l .start) a)) ls | false ↦ lines.Outside i ])
+          (out (ltb (next b (first-outside text ls)) (suc (length ls))) (i + next b (first-outside text ls)) (soon (ltb (next e (first-early (l .end) ls)) (suc (length ls))) (i + next e (first-early (l .end) ls)) (t + ((l .end - l .start) + total ls))))
+      go true e h f = step e h f
+      go false e h f = out-here i (length ls) _
+
+  -- the whole walk
+  pub rest-said : (ls : List Line) → rest (length text) 0 (walk 0 0 early.No) ls ≡ linesSaid text ls
+  unfolding linesSaid
+  rest-said ls = rw (zero-add (first-outside text ls), zero-add (first-early 0 ls), zero-add (total ls)) at (on-time ls 0 0 0)
+
+-- the loop's invariant, behind i lines
+pub record Going (text starts ends : List ℕ) (n : ℕ) (w : Walk) (i : ℕ) : Type 0 where
+  pub within : i ≤ n
+  pub same : rest (length text) i w (drop i (lines-of starts ends)) ≡ linesSaid text (lines-of starts ends)
+  pub low : w .total ≤ i * 1048576
+
+module _ (text starts ends : List ℕ) where
+  abbrev ls : List Line
+  ls = lines-of starts ends
+
+  pub going-first : (n : ℕ) → Going text starts ends n (record { end = 0; total = 0; early = early.No }) 0
+  going-first n = record { within = omega arith; same = rest-said text ls; low = omega arith }
+
+  module _ (n i : ℕ) (w : Walk) (g : Going text starts ends n w i) where
+    module _ (m : i < n) (a : i < length starts) (b : i < length ends) where
+      abbrev l : Line
+      l = record { start = getD starts i 0; end = getD ends i 0 }
+
+      here : rest (length text) i w (l ∷ drop (suc i) ls) ≡ linesSaid text ls
+      here = ap (λ (ms : List Line). rest (length text) i w ms) (sym (lines-at starts ends i a b)) ∙ g .same
+
+      pub going-on : length text ≤ 1048576 → (next : Walk) → walked.On next ≡ lineOf (length text) w i l → Going text starts ends n next (i + 1)
+      unfolding lineOf rest
+      going-on small next e =
+          subst (λ (k : ℕ). Going text starts ends n next k) (sym (add-one i)) (go (leb (l .start) (l .end)) refl (leb (l .end) (length text)) refl)
+        where
+          go : (p : Bool) → leb (l .start) (l .end) ≡ p → (q : Bool) → leb (l .end) (length text) ≡ q → Going text starts ends n next (suc i)
+          go true p true q =
+              let f : walked.On next ≡ walked.On (onward w i l) = e ∙ rw (p, q, lineOf) in
+              let z : next ≡ onward w i l = cc in
+              subst (λ (v : Walk). Going text starts ends n v (suc i)) (sym z)
+              (record {
+                within = omega (arith, m);
+                same = rw (p, q, rest) at here;
+                low = omega (arith, g .low, leb-true (l .start) (l .end) p, leb-true (l .end) (length text) q, small);
+              })
+          go true p false q = let f : walked.On next ≡ walked.Outside = e ∙ rw (p, q, lineOf) in let z : _≡_ {A = ℕ} 0 1 = cc in absurd (omega arith)
+          go false p q r = let f : walked.On next ≡ walked.Outside = e ∙ rw (p, lineOf) in let z : _≡_ {A = ℕ} 0 1 = cc in absurd (omega arith)
+
+      pub going-out : walked.Outside ≡ lineOf (length text) w i l → lines.Outside i ≡ linesSaid text ls
+      unfolding lineOf rest
+      going-out e = go (leb (l .start) (l .end)) refl (leb (l .end) (length text)) refl
+        where
+          go : (p : Bool) → leb (l .start) (l .end) ≡ p → (q : Bool) → leb (l .end) (length text) ≡ q → lines.Outside i ≡ linesSaid text ls
+          go true p true q =
+              let f : walked.Outside ≡ walked.On (onward w i l) = e ∙ rw (p, q, lineOf) in let z : _≡_ {A = ℕ} 0 1 = cc in absurd (omega arith)
+          go true p false q = rw (p, q, rest) at here
+          go false p q r = rw (p, rest) at here
+
+    -- behind the last pair
+    pub going-odd : (i ≡ length starts) ⊎ (i ≡ length ends) → (length starts ≡ length ends → ⊥) → i ≤ length starts → i ≤ length ends
+        → lines.Outside i ≡ linesSaid text ls
+    unfolding rest
+    going-odd h d a b =
+        ⊎-elim
+        (λ (e : i ≡ length starts).
+        out (ap (λ (k : ℕ). drop k ls) e ∙ no-start starts ends (less _ _ (omega (arith, e, b)) d) ∙ ap (λ (k : ℕ). unpaired ∷ drop (suc k) ls) (sym e)))
+        (λ (e : i ≡ length ends).
+        out (ap (λ (k : ℕ). drop k ls) e ∙ no-end starts ends (less _ _ (omega (arith, e, a)) (λ z. d (sym z))) ∙ ap (λ (k : ℕ). unpaired ∷ drop (suc k) ls) (sym e)))
+        h
+      where
+        out : drop i ls ≡ unpaired ∷ drop (suc i) ls → lines.Outside i ≡ linesSaid text ls
+        out e = ap (λ (ms : List Line). rest (length text) i w ms) (sym e) ∙ g .same
+
+        less : (a b : ℕ) → a ≤ b → (a ≡ b → ⊥) → a < b
+        less a b h d = ⊎-elim (λ (e : a ≡ b). absurd (d e)) (λ (l : a < b). l) (eq-or-lt-of-le h)
+
+    pub going-end : length starts ≡ length ends → i ≡ length starts → endedOf (w .early) (w .total) ≡ linesSaid text ls
+    unfolding rest
+    going-end h e =
+        ap (λ (ms : List Line). rest (length text) i w ms) (sym (drop-of-length-le ls {i = i} (omega (arith, e, lines-length starts ends h)))) ∙ g .same
+
+-- an index is of a line, and fed lines have no more bytes than the text
+pub said-small : (text : List ℕ) (ls : List Line) → length text ≤ 1048576 → length ls ≤ 1048576 → Small (linesSaid text ls)
+unfolding linesSaid Small
+said-small text ls small listed = go (ltb (first-outside text ls) (length ls)) refl (ltb (first-early 0 ls) (length ls)) refl
+  where
+    go : (p : Bool) → ltb (first-outside text ls) (length ls) ≡ p → (q : Bool) → ltb (first-early 0 ls) (length ls) ≡ q → Small (linesSaid text ls)
+    go true p q r = rw (p, linesSaid, Small) (omega (arith, ltb-true (first-outside text ls) (length ls) p, listed))
+    go false p true q = rw (p, q, linesSaid, Small) (omega (arith, ltb-true (first-early 0 ls) (length ls) q, listed))
+    go false p false q =
+        rw (p, q, linesSaid, Small) (omega (arith, rising-total text 0 ls (omega arith) (rising text 0 ls p q), small))
+
+-- the same, of whatever was found
+pub found : (text starts ends : List ℕ) → (length text ≤ 1048576) × ((length starts ≤ 1048576) × (length ends ≤ 1048576)) → (r : Lines)
+    → r ≡ linesSaid text (lines-of starts ends) → (r ≡ linesSaid text (lines-of starts ends)) × Small r
+found text starts ends h r e = (e, subst Small (sym e) (said-small text (lines-of starts ends) (h .0) few))
+  where
+    few : length (lines-of starts ends) ≤ 1048576
+    few =
+        let m = lines-many starts ends in
+        ⊎-elim
+        (λ (b : length starts ≡ length (lines-of starts ends)). omega (arith, b, h .1 .0))
+        (λ (b : length starts < length (lines-of starts ends)). omega (arith, m .2 b, h .1 .1))
+        (eq-or-lt-of-le (m .0))
+
+-- the shorter of two lists is at its end
+pub at-end : (n i a b : ℕ) → i ≤ n → n ≤ i → (n ≤ a) × (n ≤ b) × (n < a → n ≡ b) → (i ≡ a) ⊎ (i ≡ b)
+at-end n i a b u v h =
+    ⊎-elim (λ (e : n ≡ a). inl (omega (arith, e, u, v))) (λ (e : n < a). inr (omega (arith, h .2 e, u, v))) (eq-or-lt-of-le (h .0))
+
+-- and both, if they are of one length
+pub at-both : (n i a b : ℕ) → i ≤ n → n ≤ i → (n ≤ a) × (n ≤ b) × (n < a → n ≡ b) → a ≡ b → i ≡ a
+at-both n i a b u v h e =
+    ⊎-elim (λ (d : i ≡ a). d) (λ (d : i ≡ b). omega (arith, d, e)) (at-end n i a b u v h)
+
+-- what its parts are
+module _ (s : Lines) (h : Small s) where
+  pub small-outside : (i : ℕ) → s ≡ lines.Outside i → i < 2 ^ 32
+  unfolding Small
+  small-outside i e = subst Small e h
+
+  pub small-early : (i : ℕ) → s ≡ lines.Early i → i < 2 ^ 32
+  unfolding Small
+  small-early i e = subst Small e h
+
+  pub small-fed : (n : ℕ) → s ≡ lines.Fed n → n ≤ 2 ^ 40
+  unfolding Small
+  small-fed n e = subst Small e h

@@ -1,0 +1,64 @@
+-- `reader::accept` meets its contract, by the laws of `Ending`.
+use borrow.Author.Needs.{needs}
+use Rattle.reader.proofs.Ending.{accepted-all}
+use Rattle.reader.proofs.accept.Statement.{statement}
+use Rattle.reader.proofs.accept.Tie as tie
+
+mul-records : tie.Need-mul-records
+mul-records c = search needs
+
+clear-behind-requires : tie.Need-clear-behind-requires
+clear-behind-requires c κs = search needs
+
+clear-requires : tie.Need-clear-requires
+clear-requires c κs = search needs
+
+clear-requires-2 : tie.Need-clear-requires-2
+clear-requires-2 c κs = search needs
+
+clear-bytes-behind-requires : tie.Need-clear-bytes-behind-requires
+clear-bytes-behind-requires c κs = search needs
+
+cast-t17 : tie.Need-cast-t17
+cast-t17 c = search needs
+
+cast-t18 : tie.Need-cast-t18
+cast-t18 c = search needs
+
+same-length : tie.Need-same-length
+same-length c = search needs
+
+same-length-2 : tie.Need-same-length-2
+same-length-2 c = search needs
+
+same-length-3 : tie.Need-same-length-3
+same-length-3 c = search needs
+
+same-length-4 : tie.Need-same-length-4
+same-length-4 c = search needs
+
+returns : tie.Need-returns
+returns c =
+    let args = c .before .before .before .before .before .before .before .before .before .before .before .before .before .before .before .before .before .before .before .before .args in
+    let clear-behind = c .before .before .before .before .before .before .before .before .before .before .before .before .before .before .clear-behind in
+    let clear = c .before .before .before .before .before .before .before .before .before .before .clear in
+    let clear2 = c .before .before .before .before .before .before .clear2 in
+    let clear-bytes-behind = c .before .before .clear-bytes-behind in
+    accepted-all (args .events .now) (args .queue .now) (args .openers .now) (args .labels .now) (args .count) (args .bytes) ((clear-behind .last .0)) ((clear .last .0)) ((clear2 .last .0)) ((clear-bytes-behind .last .0)) (clear-behind .ensures) (clear .ensures) (clear2 .ensures) (clear-bytes-behind .ensures)
+
+pub accept-spec : {M : Type 1} → statement M
+accept-spec =
+    tie.close
+    (tie.spec
+    mul-records
+    clear-behind-requires
+    clear-requires
+    clear-requires-2
+    clear-bytes-behind-requires
+    cast-t17
+    cast-t18
+    same-length
+    same-length-2
+    same-length-3
+    same-length-4
+    returns)

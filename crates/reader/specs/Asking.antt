@@ -1,0 +1,101 @@
+-- Questions 1 to 6 as the reader asks them: the limits, the lines in one walk, the rooms. That they give the definition's outcome is a law.
+use Prim.Native.Nat.{ℕ, suc, _+_, _-_, _*_, _/_, _^_, _≤_, _<_}
+use mathlib.Core.Path.{_≡_}
+use mathlib.Core.List.{List, [], _∷_}
+use mathlib.Core.Bool.{true, false, _&&_}
+use lib.Dec.{leb, ltb, eqb}
+use lib.ListN.{length}
+use Rattle.reading.specs.declared.Line.{Line}
+use Rattle.reading.specs.declared.Answer.{Answer}
+use Rattle.reading.specs.Reading.{sheet, read}
+use Rattle.reading.specs.Questions.{Rooms, Outcome, Fed, total, first-outside, first-early, label-room, judged}
+use Rattle.inline.specs.Lines.{lines-of}
+use Rattle.reader.specs.declared.Lines.{Lines}
+use Rattle.reader.specs.declared.Lines.the-variants as lines
+use Rattle.reader.specs.declared.Early.{Early}
+use Rattle.reader.specs.declared.Early.the-variants as early
+use Rattle.reader.specs.declared.Walk.{Walk}
+use Rattle.reader.specs.declared.Walked.{Walked}
+use Rattle.reader.specs.declared.Walked.the-variants as walked
+use Rattle.reader.specs.declared.Asked.{Asked}
+use Rattle.reader.specs.declared.Asked.the-variants as asked
+
+abbrev largest : ℕ
+largest = 1048576
+
+abbrev pub refusal : ℕ → ℕ → Answer
+refusal code at = record { code = code; place = at; events = 0; labels = 0 }
+
+-- 1 and 2, of a reading, a text of n bytes and k lines: the refusal's code, or 0
+unfoldable pub limit : ℕ → ℕ → ℕ → ℕ
+limit reading n k = elim (leb reading 1) [ false ↦ 1 | true ↦ elim (leb n largest && leb k largest) [ false ↦ 2 | true ↦ 0 ] ]
+
+-- 3 and 4, of a text and its lines
+unfoldable pub linesSaid : List ℕ → List Line → Lines
+linesSaid text ls =
+    elim (ltb (first-outside text ls) (length ls)) [
+      | true ↦ lines.Outside (first-outside text ls)
+      | false ↦ elim (ltb (first-early 0 ls) (length ls)) [ true ↦ lines.Early (first-early 0 ls) | false ↦ lines.Fed (total ls) ]
+    ]
+
+-- 5 and 6, of N bytes and rooms of q and o numbers: the refusal's code, or 0
+unfoldable pub lack : ℕ → ℕ → ℕ → ℕ
+lack n q o = elim (leb (2 * n + 1) (q / 8)) [ false ↦ 5 | true ↦ elim (leb n (o / 4)) [ false ↦ 6 | true ↦ 0 ] ]
+
+unfoldable pub askedLines : Lines → ℕ → ℕ → Asked
+askedLines (lines.Outside i) q o = asked.Refused (refusal 3 i)
+askedLines (lines.Early i) q o = asked.Refused (refusal 4 i)
+askedLines (lines.Fed n) q o = elim (eqb (lack n q o) 0) [ false ↦ asked.Refused (refusal (lack n q o) 0) | true ↦ asked.Fed ]
+
+-- 1 to 6
+unfoldable pub askedOf : List ℕ → List Line → ℕ → ℕ → ℕ → Asked
+askedOf text ls reading q o =
+    elim (eqb (limit reading (length text) (length ls)) 0) [
+      | false ↦ asked.Refused (refusal (limit reading (length text) (length ls)) 0)
+      | true ↦ askedLines (linesSaid text ls) q o
+    ]
+
+-- what comes of it
+unfoldable pub concluded : List ℕ → List Line → ℕ → Rooms → Asked → Outcome
+concluded text ls reading rooms (asked.Refused a) = record { answer = a; rooms = rooms }
+concluded text ls reading rooms asked.Fed =
+    let s = read (sheet text reading (label-room (rooms .labels))) ls in
+    judged (s .refused) (s .fits) s rooms
+
+-- a sheet that passes them
+pub record Passed (text starts ends q o : List ℕ) : Type 0 where
+  pub paired : length starts ≡ length ends
+  pub small : length text ≤ 1048576
+  pub listed : length starts ≤ 1048576
+  pub fed : Fed text (lines-of starts ends)
+  pub room : (2 * total (lines-of starts ends) + 1) * 8 ≤ length q
+  pub stack : total (lines-of starts ends) * 4 ≤ length o
+
+-- the walk: the first early line so far, at a line i that starts at a, behind one that ends at b
+unfoldable pub earlyOf : Early → ℕ → ℕ → ℕ → Early
+earlyOf (early.At k) i a b = early.At k
+earlyOf early.No i a b = elim (ltb a b) [ true ↦ early.At i | false ↦ early.No ]
+
+abbrev pub onward : Walk → ℕ → Line → Walk
+onward w i l = record { end = l .end; total = w .total + (l .end - l .start); early = earlyOf (w .early) i (l .start) (w .end) }
+
+-- after line i, in a text of n bytes
+unfoldable pub lineOf : ℕ → Walk → ℕ → Line → Walked
+lineOf n w i l = elim (leb (l .start) (l .end) && leb (l .end) n) [ true ↦ walked.On (onward w i l) | false ↦ walked.Outside ]
+
+-- behind all lines
+unfoldable pub endedOf : Early → ℕ → Lines
+endedOf (early.At k) t = lines.Early k
+endedOf early.No t = lines.Fed t
+
+-- of the lines that are left, from line i on
+unfoldable pub rest : ℕ → ℕ → Walk → List Line → Lines
+rest n i w [] = endedOf (w .early) (w .total)
+rest n i w (l ∷ ls) =
+    elim (leb (l .start) (l .end) && leb (l .end) n) [ true ↦ rest n (suc i) (onward w i l) ls | false ↦ lines.Outside i ]
+
+-- indices of 32 bits, and bytes of 64
+unfoldable pub Small : Lines → Type 0
+Small (lines.Outside i) = i < 2 ^ 32
+Small (lines.Early i) = i < 2 ^ 32
+Small (lines.Fed n) = n ≤ 2 ^ 40

@@ -1,0 +1,3 @@
+pub mod Asking
+pub mod Lookup
+pub mod Telling

@@ -1,0 +1,30 @@
+-- The lookup of a label (document 01, "Labels"): the bytes of an event's home, from the text or from the label room.
+use Prim.Native.Nat.{ℕ, _-_}
+use mathlib.Core.List.{List, []}
+use mathlib.Core.Bool.{true, false}
+use lib.Dec.{leb, eqb}
+use lib.ListN.{length, take, drop}
+
+-- the home, if the range ends within its n bytes; else 0
+unfoldable pub withinOf : ℕ → ℕ → ℕ → ℕ
+withinOf home b n = elim (leb b n) [ true ↦ home | false ↦ 0 ]
+
+-- 1 is a text of n bytes, 2 a label room of m bytes; an impossible home or range is 0
+unfoldable pub homeIn : ℕ → ℕ → ℕ → ℕ → ℕ → ℕ
+homeIn n m home a b =
+    elim (leb a b) [
+      | false ↦ 0
+      | true ↦ elim (eqb home 1) [ true ↦ withinOf 1 b n | false ↦ elim (eqb home 2) [ true ↦ withinOf 2 b m | false ↦ 0 ] ]
+    ]
+
+-- the bytes from a to before b
+abbrev part : List ℕ → ℕ → ℕ → List ℕ
+part bytes a b = take (b - a) (drop a bytes)
+
+unfoldable pub partIn : ℕ → List ℕ → List ℕ → ℕ → ℕ → List ℕ
+partIn home text labels a b =
+    elim (eqb home 1) [ true ↦ part text a b | false ↦ elim (eqb home 2) [ true ↦ part labels a b | false ↦ [] ] ]
+
+-- a part of whichever is the home; an impossible home or range gives an empty part
+abbrev pub labelOf : List ℕ → List ℕ → ℕ → ℕ → ℕ → List ℕ
+labelOf text labels home a b = partIn (homeIn (length text) (length labels) home a b) text labels a b

@@ -1,0 +1,35 @@
+-- What a call is told by: its answer and the four rooms at its end.
+use Prim.Native.Nat.{ℕ, _-_, _*_, _^_, _≤_, _<_}
+use mathlib.Core.Path.{_≡_}
+use mathlib.Core.List.{List, _++_}
+use lib.ListN.{length, take, replicate}
+use Rattle.reading.specs.declared.Answer.{Answer}
+use Rattle.reading.specs.declared.Refused.the-variants as refused
+use Rattle.reading.specs.Draining.{drain}
+use Rattle.reading.specs.Questions.{Rooms, Outcome, zeros}
+use Rattle.rooms.specs.declared.Parser.{Parser}
+use Rattle.rooms.specs.Records.{events}
+
+-- the four rooms, as they are lent
+abbrev pub lent : List ℕ → List ℕ → List ℕ → List ℕ → Rooms
+lent e q o l = record { events = e; queue = q; openers = o; labels = l }
+
+abbrev pub told : Answer → List ℕ → List ℕ → List ℕ → List ℕ → Outcome
+told a e q o l = record { answer = a; rooms = lent e q o l }
+
+-- the first n numbers of a room, and zero behind them
+abbrev pub kept : ℕ → List ℕ → List ℕ
+kept n room = take n room ++ replicate (length room - n) 0
+
+-- so many events and label bytes stay, and all else is zero
+abbrev pub accepts : ℕ → ℕ → Rooms → Outcome
+accepts count bytes rooms =
+    told (record { code = 0; place = 0; events = count; labels = bytes }) (kept (count * 7) (rooms .events)) (zeros (rooms .queue)) (zeros (rooms .openers))
+    (kept bytes (rooms .labels))
+
+-- what the last questions ask of a parser and its rooms: that its counts are of them
+pub record Parsed (p : Parser) (q l : List ℕ) : Type 0 where
+  pub queued : p .events * 8 ≤ length q
+  pub few : p .refused ≡ refused.No → length (drain (events (p .events) q)) < 2 ^ 32
+  pub labels : p .labels ≤ length l
+  pub bytes : p .labels < 2 ^ 32
