@@ -1,8 +1,9 @@
 -- The call: the last questions, the outcome, and demand 3 of it.
 use Prim.Native.Nat.{ℕ, _+_, _/_, _≤_}
-use mathlib.Core.Path.{_≡_, sym, ap, _∙_, subst}
+use mathlib.Core.Path.{_≡_, refl, sym, ap, _∙_, subst}
 use mathlib.Core.List.{List}
 use mathlib.Core.Bool.{Bool, true, false}
+use native.Mathlib.Omega.{arith}
 use lib.ListN.{length}
 use Rattle.reading.specs.declared.Answer.{Answer}
 use Rattle.reading.specs.declared.Line.{Line}
@@ -21,23 +22,42 @@ use Rattle.inline.specs.Asks.{StandsFor}
 use Rattle.reader.specs.declared.Asked.{Asked}
 use Rattle.reader.specs.declared.Asked.the-variants as asked
 use Rattle.reader.specs.Asking.{askedOf, concluded}
-use Rattle.reader.specs.Telling.{lent, told}
+use Rattle.reader.specs.declared.Brace.{Brace}
+use Rattle.reader.specs.Telling.{lent, told, braceOf}
 use Rattle.reader.proofs.Asking.{outcome-asked}
 use Rattle.reader.proofs.Ending.{judged-lent}
 
+-- the brace in numbers
+pub brace-at : (r : Refused) (p : Place) → r ≡ refused.At p → record { met = true; at = p .0 } ≡ braceOf r
+unfolding braceOf
+brace-at r p h = sym (ap braceOf h)
+
+pub brace-none : (r : Refused) → r ≡ refused.No → record { met = false; at = 0 } ≡ braceOf r
+unfolding braceOf
+brace-none r h = sym (ap braceOf h)
+
 -- 7 and 8
-module _ (r : Refused) (f : Bool) (s : State) (rooms : Rooms) where
-  pub judged-brace : (p : Place) → r ≡ refused.At p → refuses 7 (p .0) (cleared rooms) ≡ judged r f s rooms
-  unfolding judged
-  judged-brace p h = sym (ap (λ (z : Refused). judged z f s rooms) h)
+pub judged-brace : (r : Refused) (f : Bool) (s : State) (rooms : Rooms) (b : Brace) → b ≡ braceOf r → b .met ≡ true
+    → refuses 7 (b .at) (cleared rooms) ≡ judged r f s rooms
+unfolding judged braceOf
+judged-brace (refused.At p) f s rooms b h e = ap (λ (z : Brace). refuses 7 (z .at) (cleared rooms)) h
+judged-brace refused.No f s rooms b h e = let z : true ≡ false = sym e ∙ ap (λ (z : Brace). z .met) h in let y : _≡_ {A = ℕ} 0 1 = cc in absurd (omega arith)
 
-  pub judged-short : r ≡ refused.No → f ≡ false → refuses 8 0 (cleared rooms) ≡ judged r f s rooms
-  unfolding judged
-  judged-short h e = sym (ap (λ (z : Refused). judged z f s rooms) h ∙ ap (λ (b : Bool). judged refused.No b s rooms) e)
+pub not-refused : (r : Refused) (b : Brace) → b ≡ braceOf r → b .met ≡ false → r ≡ refused.No
+unfolding braceOf
+not-refused (refused.At p) b h e = let z : false ≡ true = sym e ∙ ap (λ (z : Brace). z .met) h in let y : _≡_ {A = ℕ} 0 1 = cc in absurd (omega arith)
+not-refused refused.No b h e = refl
 
-  pub judged-fit : r ≡ refused.No → f ≡ true → handed-out (drain (s .queue)) (s .labels) rooms ≡ judged r f s rooms
+module _ (r : Refused) (f : Bool) (s : State) (rooms : Rooms) (b : Brace) (h : b ≡ braceOf r) (e : b .met ≡ false) where
+  pub judged-short : f ≡ false → refuses 8 0 (cleared rooms) ≡ judged r f s rooms
   unfolding judged
-  judged-fit h e = sym (ap (λ (z : Refused). judged z f s rooms) h ∙ ap (λ (b : Bool). judged refused.No b s rooms) e)
+  judged-short g =
+      sym (ap (λ (z : Refused). judged z f s rooms) (not-refused r b h e) ∙ ap (λ (z : Bool). judged refused.No z s rooms) g)
+
+  pub judged-fit : f ≡ true → handed-out (drain (s .queue)) (s .labels) rooms ≡ judged r f s rooms
+  unfolding judged
+  judged-fit g =
+      sym (ap (λ (z : Refused). judged z f s rooms) (not-refused r b h e) ∙ ap (λ (z : Bool). judged refused.No z s rooms) g)
 
 module _ (text : List ℕ) (ls : List Line) (reading : ℕ) where
   -- demand 3 of an outcome

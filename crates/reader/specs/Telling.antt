@@ -2,13 +2,16 @@
 use Prim.Native.Nat.{ℕ, _-_, _*_, _^_, _≤_, _<_}
 use mathlib.Core.Path.{_≡_}
 use mathlib.Core.List.{List, _++_}
+use mathlib.Core.Bool.{true, false}
 use lib.ListN.{length, take, replicate}
 use Rattle.reading.specs.declared.Answer.{Answer}
+use Rattle.reading.specs.declared.Refused.{Refused}
 use Rattle.reading.specs.declared.Refused.the-variants as refused
 use Rattle.reading.specs.Draining.{drain}
 use Rattle.reading.specs.Questions.{Rooms, Outcome, zeros}
 use Rattle.rooms.specs.declared.Parser.{Parser}
 use Rattle.rooms.specs.Records.{events}
+use Rattle.reader.specs.declared.Brace.{Brace}
 
 -- the four rooms, as they are lent
 abbrev pub lent : List ℕ → List ℕ → List ℕ → List ℕ → Rooms
@@ -26,6 +29,11 @@ abbrev pub accepts : ℕ → ℕ → Rooms → Outcome
 accepts count bytes rooms =
     told (record { code = 0; place = 0; events = count; labels = bytes }) (kept (count * 7) (rooms .events)) (zeros (rooms .queue)) (zeros (rooms .openers))
     (kept bytes (rooms .labels))
+
+-- whether a bare opening brace was met outside verbatim, and where the first stands
+unfoldable pub braceOf : Refused → Brace
+braceOf (refused.At p) = record { met = true; at = p .0 }
+braceOf refused.No = record { met = false; at = 0 }
 
 -- what the last questions ask of a parser and its rooms: that its counts are of them
 pub record Parsed (p : Parser) (q l : List ℕ) : Type 0 where

@@ -15,7 +15,7 @@ ghost use Rattle.inline.specs.Asks.{StandsFor};
 ghost use Rattle.reader.specs.Asking.{limit, linesSaid, lack, askedOf, earlyOf, lineOf, endedOf, Passed, Small};
 ghost use Rattle.reader.specs.Asking.{refusal as refusal-of};
 ghost use Rattle.reader.specs.Lookup.{withinOf, homeIn, labelOf};
-ghost use Rattle.reader.specs.Telling.{lent, told, kept, accepts, Parsed};
+ghost use Rattle.reader.specs.Telling.{lent, told, kept, accepts, braceOf, Parsed};
 use drain::Drained;
 use reading::Answer;
 use reading::Place;
@@ -52,6 +52,12 @@ struct Walk {
 enum Walked {
     On(Walk),
     Outside,
+}
+
+// Whether a bare opening brace was met outside verbatim, and where the first stands.
+struct Brace {
+    met: bool,
+    at: u32,
 }
 
 // What the questions before reading say: go on, or the refusal.
@@ -246,10 +252,10 @@ fn parse_lines(
 fn clear(room: &mut [u32])
     ensures { λ _. ⌜ now (room .exit) ≡ zeros (now (room .entry)) ⌝ }
 {
-    let mut i = 0;
-    while i < room.len() {
-        room[i] = 0;
-        i += 1;
+    let mut at = 0;
+    while at < room.len() {
+        room[at] = 0;
+        at += 1;
     }
 }
 
@@ -261,6 +267,15 @@ fn clear_bytes(room: &mut [u8])
         room[i] = 0;
         i += 1;
     }
+}
+
+// The rooms that nothing is handed out in.
+fn clear_work(queue: &mut [u32], openers: &mut [u32])
+    ensures { λ _. ⌜ now (queue .exit) ≡ zeros (now (queue .entry)) ⌝ }
+    ensures { λ _. ⌜ now (openers .exit) ≡ zeros (now (openers .entry)) ⌝ }
+{
+    clear(queue);
+    clear(openers);
 }
 
 // A refusal under 7 to 9: all four rooms are zero.
@@ -275,8 +290,7 @@ fn refuse(
     ensures { λ r. ⌜ told r (now (events .exit)) (now (queue .exit)) (now (openers .exit)) (now (labels .exit)) ≡ refuses code place (cleared (lent (now (events .entry)) (now (queue .entry)) (now (openers .entry)) (now (labels .entry)))) ⌝ }
 {
     clear(events);
-    clear(queue);
-    clear(openers);
+    clear_work(queue, openers);
     clear_bytes(labels);
     refusal(code, place)
 }
@@ -313,8 +327,7 @@ fn accept(
 {
     let records = count * 7;
     clear_behind(events, records);
-    clear(queue);
-    clear(openers);
+    clear_work(queue, openers);
     clear_bytes_behind(labels, bytes);
     Answer {
         code: 0,
@@ -345,6 +358,19 @@ fn hand_out(
     }
 }
 
+// The first bare opening brace outside verbatim, as numbers.
+fn brace_of(refused: Refused) -> Brace
+    ensures { λ r. ⌜ r ≡ braceOf refused ⌝ }
+{
+    match refused {
+        Refused::At(at) => Brace {
+            met: true,
+            at: at.0,
+        },
+        Refused::No => Brace { met: false, at: 0 },
+    }
+}
+
 // 7: is every bare opening brace inside verbatim? 8: does the label room hold all the labels built?
 fn judge(
     p: Parser,
@@ -356,17 +382,16 @@ fn judge(
     requires { ⌜ Parsed p (now queue) (now labels) ⌝ }
     ensures { λ r. ⌜ told r (now (events .exit)) (now (queue .exit)) (now (openers .exit)) (now (labels .exit)) ≡ judged (p .refused) (p .fits) (stands p (now (queue .entry)) (now (openers .entry)) (now (labels .entry))) (lent (now (events .entry)) (now (queue .entry)) (now (openers .entry)) (now (labels .entry))) ⌝ }
 {
+    let fits = p.fits;
     let refused = p.refused;
-    match refused {
-        Refused::At(at) => refuse(7, at.0, events, queue, openers, labels),
-        Refused::No => {
-            if p.fits {
-                hand_out(p, events, queue, openers, labels)
-            } else {
-                refuse(8, 0, events, queue, openers, labels)
-            }
-        }
+    let brace = brace_of(refused);
+    if brace.met {
+        return refuse(7, brace.at, events, queue, openers, labels);
     }
+    if !fits {
+        return refuse(8, 0, events, queue, openers, labels);
+    }
+    hand_out(p, events, queue, openers, labels)
 }
 
 // Reads a sheet: the lines of a text, each from its start to before its end, into the event room and the label room.

@@ -10,11 +10,8 @@ mul-records c = search needs
 clear-behind-requires : tie.Need-clear-behind-requires
 clear-behind-requires c κs = search needs
 
-clear-requires : tie.Need-clear-requires
-clear-requires c κs = search needs
-
-clear-requires-2 : tie.Need-clear-requires-2
-clear-requires-2 c κs = search needs
+clear-work-requires : tie.Need-clear-work-requires
+clear-work-requires c κs = search needs
 
 clear-bytes-behind-requires : tie.Need-clear-bytes-behind-requires
 clear-bytes-behind-requires c κs = search needs
@@ -39,12 +36,11 @@ same-length-4 c = search needs
 
 returns : tie.Need-returns
 returns c =
-    let args = c .before .before .before .before .before .before .before .before .before .before .before .before .before .before .before .before .before .before .before .before .args in
-    let clear-behind = c .before .before .before .before .before .before .before .before .before .before .before .before .before .before .clear-behind in
-    let clear = c .before .before .before .before .before .before .before .before .before .before .clear in
-    let clear2 = c .before .before .before .before .before .before .clear2 in
+    let args = c .before .before .before .before .before .before .before .before .before .before .before .before .before .before .before .before .before .before .before .args in
+    let clear-behind = c .before .before .before .before .before .before .before .before .before .before .before .before .before .clear-behind in
+    let clear-work = c .before .before .before .before .before .before .before .before .clear-work in
     let clear-bytes-behind = c .before .before .clear-bytes-behind in
-    accepted-all (args .events .now) (args .queue .now) (args .openers .now) (args .labels .now) (args .count) (args .bytes) ((clear-behind .last .0)) ((clear .last .0)) ((clear2 .last .0)) ((clear-bytes-behind .last .0)) (clear-behind .ensures) (clear .ensures) (clear2 .ensures) (clear-bytes-behind .ensures)
+    accepted-all (args .events .now) (args .queue .now) (args .openers .now) (args .labels .now) (args .count) (args .bytes) ((clear-behind .last .0)) ((clear-work .last .0)) ((clear-work .last .1 .0)) ((clear-bytes-behind .last .0)) (clear-behind .ensures) (clear-work .ensures .0) (clear-work .ensures .1) (clear-bytes-behind .ensures)
 
 pub accept-spec : {M : Type 1} → statement M
 accept-spec =
@@ -52,8 +48,7 @@ accept-spec =
     (tie.spec
     mul-records
     clear-behind-requires
-    clear-requires
-    clear-requires-2
+    clear-work-requires
     clear-bytes-behind-requires
     cast-t17
     cast-t18

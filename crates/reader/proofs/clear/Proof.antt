@@ -7,10 +7,10 @@ use Rattle.reader.proofs.clear.Statement.{statement}
 use Rattle.reader.proofs.clear.Tie as tie
 
 abbrev Inv-loop : tie.InvT-loop
-Inv-loop room₀ i₀ room i = Clearing room₀ room i
+Inv-loop room₀ at₀ room at = Clearing room₀ room at
 
 abbrev μ-loop : tie.MeasureT-loop
-μ-loop room₀ i₀ room i = length room₀ - i
+μ-loop room₀ at₀ room at = length room₀ - at
 
 loop-holds : tie.Need-loop-holds Inv-loop μ-loop
 loop-holds c =
@@ -25,8 +25,8 @@ slice-write-room : tie.Need-slice-write-room Inv-loop μ-loop
 slice-write-room c =
     search needs
 
-add-i : tie.Need-add-i Inv-loop μ-loop
-add-i c =
+add-at : tie.Need-add-at Inv-loop μ-loop
+add-at c =
     search needs
 
 loop-less : tie.Need-loop-less Inv-loop μ-loop
@@ -54,7 +54,7 @@ clear-spec =
     loop-holds
     mul-room
     slice-write-room
-    add-i
+    add-at
     loop-less
     loop-again
     same-length

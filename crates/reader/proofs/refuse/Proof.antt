@@ -7,11 +7,8 @@ use Rattle.reader.proofs.refuse.Tie as tie
 clear-requires : tie.Need-clear-requires
 clear-requires c κs = search needs
 
-clear-requires-2 : tie.Need-clear-requires-2
-clear-requires-2 c κs = search needs
-
-clear-requires-3 : tie.Need-clear-requires-3
-clear-requires-3 c κs = search needs
+clear-work-requires : tie.Need-clear-work-requires
+clear-work-requires c κs = search needs
 
 clear-bytes-requires : tie.Need-clear-bytes-requires
 clear-bytes-requires c κs = search needs
@@ -33,21 +30,19 @@ same-length-4 c = search needs
 
 returns : tie.Need-returns
 returns c =
-    let args = c .before .before .before .before .before .before .before .before .before .before .before .before .before .before .before .before .before .before .before .before .before .args in
+    let args = c .before .before .before .before .before .before .before .before .before .before .before .before .before .before .before .before .before .before .before .before .args in
     let refusal = c .refusal in
-    let clear = c .before .before .before .before .before .before .before .before .before .before .before .before .before .before .before .clear in
-    let clear2 = c .before .before .before .before .before .before .before .before .before .before .before .clear2 in
-    let clear3 = c .before .before .before .before .before .before .before .clear3 in
+    let clear = c .before .before .before .before .before .before .before .before .before .before .before .before .before .before .clear in
+    let clear-work = c .before .before .before .before .before .before .before .before .before .clear-work in
     let clear-bytes = c .before .before .before .clear-bytes in
-    refused-all (args .events .now) (args .queue .now) (args .openers .now) (args .labels .now) (args .code) (args .place) (refusal .result) ((clear .last .0)) ((clear2 .last .0)) ((clear3 .last .0)) ((clear-bytes .last .0)) (refusal .ensures) (clear .ensures) (clear2 .ensures) (clear3 .ensures) (clear-bytes .ensures)
+    refused-all (args .events .now) (args .queue .now) (args .openers .now) (args .labels .now) (args .code) (args .place) (refusal .result) ((clear .last .0)) ((clear-work .last .0)) ((clear-work .last .1 .0)) ((clear-bytes .last .0)) (refusal .ensures) (clear .ensures) (clear-work .ensures .0) (clear-work .ensures .1) (clear-bytes .ensures)
 
 pub refuse-spec : {M : Type 1} → statement M
 refuse-spec =
     tie.close
     (tie.spec
     clear-requires
-    clear-requires-2
-    clear-requires-3
+    clear-work-requires
     clear-bytes-requires
     refusal-requires
     same-length

@@ -29,12 +29,7 @@ inside-requires : tie.Need-inside-requires
 inside-requires c κs = search needs
 
 returns : tie.Need-returns
-returns c =
-    let args = c .before .before .before .before .args in
-    let enum-told = c .before .before .enum-told in
-    let new = c .before .new in
-    let moved = c .moved in
-    begun-out (args .reading) (args .p) (enum-told .given .1) (new .result) (new .ensures) (moved .result) (moved .ensures)
+returns c = search (needs, begun-out)
 
 returns-2 : tie.Need-returns-2
 returns-2 c =
