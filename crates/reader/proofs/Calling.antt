@@ -23,7 +23,7 @@ use Rattle.reader.specs.declared.Asked.{Asked}
 use Rattle.reader.specs.declared.Asked.the-variants as asked
 use Rattle.reader.specs.Asking.{askedOf, concluded}
 use Rattle.reader.specs.declared.Brace.{Brace}
-use Rattle.reader.specs.Telling.{lent, told, braceOf}
+use Rattle.reader.specs.Telling.{lent, told, braceOf, codeOf}
 use Rattle.reader.proofs.Asking.{outcome-asked}
 use Rattle.reader.proofs.Ending.{judged-lent}
 
@@ -37,27 +37,45 @@ unfolding braceOf
 brace-none r h = sym (ap braceOf h)
 
 -- 7 and 8
-pub judged-brace : (r : Refused) (f : Bool) (s : State) (rooms : Rooms) (b : Brace) → b ≡ braceOf r → b .met ≡ true
-    → refuses 7 (b .at) (cleared rooms) ≡ judged r f s rooms
-unfolding judged braceOf
-judged-brace (refused.At p) f s rooms b h e = ap (λ (z : Brace). refuses 7 (z .at) (cleared rooms)) h
-judged-brace refused.No f s rooms b h e = let z : true ≡ false = sym e ∙ ap (λ (z : Brace). z .met) h in let y : _≡_ {A = ℕ} 0 1 = cc in absurd (omega arith)
+module _ (b f : Bool) where
+  pub code-brace : b ≡ true → 7 ≡ codeOf b f
+  unfolding codeOf
+  code-brace h = sym (ap (λ (z : Bool). codeOf z f) h)
 
-pub not-refused : (r : Refused) (b : Brace) → b ≡ braceOf r → b .met ≡ false → r ≡ refused.No
-unfolding braceOf
-not-refused (refused.At p) b h e = let z : false ≡ true = sym e ∙ ap (λ (z : Brace). z .met) h in let y : _≡_ {A = ℕ} 0 1 = cc in absurd (omega arith)
-not-refused refused.No b h e = refl
+  pub code-none : b ≡ false → f ≡ true → 0 ≡ codeOf b f
+  unfolding codeOf
+  code-none h e = sym (ap (λ (z : Bool). codeOf z f) h ∙ ap (λ (z : Bool). codeOf false z) e)
 
-module _ (r : Refused) (f : Bool) (s : State) (rooms : Rooms) (b : Brace) (h : b ≡ braceOf r) (e : b .met ≡ false) where
-  pub judged-short : f ≡ false → refuses 8 0 (cleared rooms) ≡ judged r f s rooms
-  unfolding judged
-  judged-short g =
-      sym (ap (λ (z : Refused). judged z f s rooms) (not-refused r b h e) ∙ ap (λ (z : Bool). judged refused.No z s rooms) g)
+  pub code-short : b ≡ false → f ≡ false → 8 ≡ codeOf b f
+  unfolding codeOf
+  code-short h e = sym (ap (λ (z : Bool). codeOf z f) h ∙ ap (λ (z : Bool). codeOf false z) e)
 
-  pub judged-fit : f ≡ true → handed-out (drain (s .queue)) (s .labels) rooms ≡ judged r f s rooms
-  unfolding judged
-  judged-fit g =
-      sym (ap (λ (z : Refused). judged z f s rooms) (not-refused r b h e) ∙ ap (λ (z : Bool). judged refused.No z s rooms) g)
+module _ (r : Refused) (f : Bool) (s : State) (rooms : Rooms) (b : Brace) (h : b ≡ braceOf r) (k : ℕ) (e : k ≡ codeOf (b .met) f) where
+  same-code : k ≡ codeOf (braceOf r .met) f
+  same-code = e ∙ ap (λ (z : Brace). codeOf (z .met) f) h
+
+  pub judged-code : (k ≡ 0 → ⊥) → refuses k (b .at) (cleared rooms) ≡ judged r f s rooms
+  unfolding braceOf codeOf judged
+  judged-code d =
+      ap (λ (z : Brace). refuses k (z .at) (cleared rooms)) h
+      ∙ ap (λ (z : ℕ). refuses z (braceOf r .at) (cleared rooms)) same-code
+      ∙ go r f (λ z. d (same-code ∙ z))
+    where
+      go : (r : Refused) (f : Bool) → (codeOf (braceOf r .met) f ≡ 0 → ⊥)
+          → refuses (codeOf (braceOf r .met) f) (braceOf r .at) (cleared rooms) ≡ judged r f s rooms
+      go (refused.At p) f d = refl
+      go refused.No true d = absurd (d refl)
+      go refused.No false d = refl
+
+  pub judged-none : k ≡ 0 → (r ≡ refused.No) × (handed-out (drain (s .queue)) (s .labels) rooms ≡ judged r f s rooms)
+  unfolding braceOf codeOf judged
+  judged-none z = go r f (sym same-code ∙ z)
+    where
+      go : (r : Refused) (f : Bool) → codeOf (braceOf r .met) f ≡ 0
+          → (r ≡ refused.No) × (handed-out (drain (s .queue)) (s .labels) rooms ≡ judged r f s rooms)
+      go (refused.At p) f z = absurd (omega (arith, z))
+      go refused.No true z = (refl, refl)
+      go refused.No false z = absurd (omega (arith, z))
 
 module _ (text : List ℕ) (ls : List Line) (reading : ℕ) where
   -- demand 3 of an outcome

@@ -2,7 +2,7 @@
 use Prim.Native.Nat.{ℕ, _-_, _*_, _^_, _≤_, _<_}
 use mathlib.Core.Path.{_≡_}
 use mathlib.Core.List.{List, _++_}
-use mathlib.Core.Bool.{true, false}
+use mathlib.Core.Bool.{Bool, true, false}
 use lib.ListN.{length, take, replicate}
 use Rattle.reading.specs.declared.Answer.{Answer}
 use Rattle.reading.specs.declared.Refused.{Refused}
@@ -34,6 +34,12 @@ accepts count bytes rooms =
 unfoldable pub braceOf : Refused → Brace
 braceOf (refused.At p) = record { met = true; at = p .0 }
 braceOf refused.No = record { met = false; at = 0 }
+
+-- 7 and 8, by whether one was met and whether all labels fit: the refusal's code, or 0
+unfoldable pub codeOf : Bool → Bool → ℕ
+codeOf true fits = 7
+codeOf false true = 0
+codeOf false false = 8
 
 -- what the last questions ask of a parser and its rooms: that its counts are of them
 pub record Parsed (p : Parser) (q l : List ℕ) : Type 0 where

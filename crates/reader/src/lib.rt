@@ -15,7 +15,7 @@ ghost use Rattle.inline.specs.Asks.{StandsFor};
 ghost use Rattle.reader.specs.Asking.{limit, linesSaid, lack, askedOf, earlyOf, lineOf, endedOf, Passed, Small};
 ghost use Rattle.reader.specs.Asking.{refusal as refusal-of};
 ghost use Rattle.reader.specs.Lookup.{withinOf, homeIn, labelOf};
-ghost use Rattle.reader.specs.Telling.{lent, told, kept, accepts, braceOf, Parsed};
+ghost use Rattle.reader.specs.Telling.{lent, told, kept, accepts, braceOf, codeOf, Parsed};
 use drain::Drained;
 use reading::Answer;
 use reading::Place;
@@ -372,6 +372,19 @@ fn brace_of(refused: Refused) -> Brace
 }
 
 // 7: is every bare opening brace inside verbatim? 8: does the label room hold all the labels built?
+fn last_code(brace: bool, fits: bool) -> u32
+    ensures { λ r. ⌜ r ≡ codeOf brace fits ⌝ }
+{
+    if brace {
+        return 7;
+    }
+    if fits {
+        return 0;
+    }
+    8
+}
+
+// 7 to 9, of what was read.
 fn judge(
     p: Parser,
     events: &mut [u32],
@@ -382,14 +395,11 @@ fn judge(
     requires { ⌜ Parsed p (now queue) (now labels) ⌝ }
     ensures { λ r. ⌜ told r (now (events .exit)) (now (queue .exit)) (now (openers .exit)) (now (labels .exit)) ≡ judged (p .refused) (p .fits) (stands p (now (queue .entry)) (now (openers .entry)) (now (labels .entry))) (lent (now (events .entry)) (now (queue .entry)) (now (openers .entry)) (now (labels .entry))) ⌝ }
 {
-    let fits = p.fits;
     let refused = p.refused;
     let brace = brace_of(refused);
-    if brace.met {
-        return refuse(7, brace.at, events, queue, openers, labels);
-    }
-    if !fits {
-        return refuse(8, 0, events, queue, openers, labels);
+    let code = last_code(brace.met, p.fits);
+    if code != 0 {
+        return refuse(code, brace.at, events, queue, openers, labels);
     }
     hand_out(p, events, queue, openers, labels)
 }
