@@ -1,16 +1,23 @@
-//! Compares our leaves with the Rust (`lex.rs`, `attr.rs` and `inline.rs` of the documents, as they stand).
+//! Compares ours with the Rust (`lex.rs`, `attr.rs` and `inline.rs` of the documents, as they stand): the reader and the leaves, each from its
+//! static library.
 //!
-//! `run [N [SEED]]`: compares, with N random lines (10 million if it is left out), other ones for another seed. Status 1 at the first
-//! difference.
+//! `run [N [SEED]]`: compares, with N random sheets (20 million if it is left out) and half as many random lines, other ones for another seed.
+//! Status 1 at the first difference.
+//! `run rows [SEED]`: prints the sample of the Rust's answers that the definition of a reading is computed on, `crates/reading/proofs/Sampled.antt`.
 //! `run sample`: prints the sample of the Rust's answers that `crates/replay` replays.
+//! `run sheets`: prints the sheets, with the Rust's answers, that `crates/replay_sheets` replays.
+//! `run show < FILE`: prints what `./sheet < FILE` must print.
 
 #[allow(dead_code, unused_imports)]
-mod attr {
-    include!(env!("ATTR_RS"));
-}
+mod attr;
 #[allow(dead_code)]
 mod inline {
     include!(env!("INLINE_RS"));
+}
+/// The Rust in reading 1.
+#[allow(dead_code)]
+mod strict {
+    include!(env!("STRICT_RS"));
 }
 #[allow(dead_code)]
 mod lex {
@@ -18,24 +25,56 @@ mod lex {
 }
 type CowStr<'s> = std::borrow::Cow<'s, str>;
 
+mod check;
+mod expect;
+mod laws;
+mod lending;
+mod limits;
+mod lookup;
+#[path = "../interface/mivurakol.rs"]
+mod mivurakol;
+mod model;
 mod oracle;
 mod ours;
 mod random;
+mod rooms;
+mod rows;
 mod sample;
 mod scans;
+mod shapes;
+mod sheet;
+mod sheets;
+mod show;
+mod stored;
+mod theirs;
 mod tokens;
+mod worked;
+
+/// Whether there is no difference; then the last line says so.
+fn compare(random: u64, seed: u64) -> bool {
+    let Some((sheets, calls)) = sheets::compare(random, seed) else {
+        return false;
+    };
+    let lines = random / 2;
+    if tokens::compare(lines, seed) || scans::compare(seed) {
+        return false;
+    }
+    println!("no difference in {sheets} sheets, {random} of them random, in both readings by {calls} calls, and in the leaves");
+    true
+}
 
 fn main() {
     let word = std::env::args().nth(1);
-    if word.as_deref() == Some("sample") {
-        sample::print();
-        return;
-    }
-    let lines = word.map_or(10_000_000, |n| n.parse().expect("a number of random lines"));
     let seed = std::env::args().nth(2).map_or(0x5eed, |n| n.parse().expect("a seed"));
-    let differences = tokens::compare(lines, seed) || scans::compare(seed);
-    if differences {
-        std::process::exit(1);
+    match word.as_deref() {
+        Some("rows") => rows::print(seed),
+        Some("sample") => sample::print(),
+        Some("sheets") => stored::print(),
+        Some("show") => show::print(),
+        number => {
+            if !compare(number.map_or(20_000_000, |n| n.parse().expect("a number of random sheets")), seed) {
+                std::process::exit(1);
+            }
+        }
     }
-    println!("no difference");
 }

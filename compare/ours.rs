@@ -48,7 +48,6 @@ extern "C" {
 
 pub struct Cursor(State);
 
-#[allow(dead_code)]
 impl Cursor {
     pub fn new(pos: usize, verbatim: bool) -> Self {
         Cursor(unsafe { mivurakol_cursor(pos, verbatim) })
@@ -76,7 +75,6 @@ impl Cursor {
 }
 
 /// A scan ahead: of a line, from a place.
-#[allow(dead_code)]
 #[derive(Clone, Copy, Debug)]
 pub enum Scan {
     Autolink,
@@ -85,7 +83,6 @@ pub enum Scan {
     RawFormat,
 }
 
-#[allow(dead_code)]
 pub fn scan(what: Scan, src: &[u8], from: usize) -> Option<usize> {
     let scanned = unsafe {
         match what {
@@ -99,14 +96,12 @@ pub fn scan(what: Scan, src: &[u8], from: usize) -> Option<usize> {
 }
 
 /// The em and en dashes of a run of hyphens.
-#[allow(dead_code)]
 pub fn hyphens(len: usize) -> (usize, usize) {
     let counts = unsafe { mivurakol_hyphens(len) };
     (counts.first, counts.second)
 }
 
 /// The ellipses of a run of periods, and the periods that are left.
-#[allow(dead_code)]
 pub fn periods(len: usize) -> (usize, usize) {
     let counts = unsafe { mivurakol_periods(len) };
     (counts.first, counts.second)

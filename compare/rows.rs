@@ -1,8 +1,9 @@
 //! The sample of the Rust's answers that the definition of a reading is computed on: printed as a table of the proofs' own language.
 
-use crate::oracle::Sheet;
 use crate::random::Random;
-use crate::sheets::{cut, oracle, text, Input};
+use crate::shapes::{cut, text};
+use crate::sheet::Sheet;
+use crate::theirs::{self, Said};
 
 /// How many sheets, how long they are at most, and how many label bytes the table's rooms hold.
 const ROWS: usize = 240;
@@ -37,27 +38,24 @@ fn event(e: &[u32; 7]) -> String {
 }
 
 /// A row of the table; none for a sheet that it cannot hold.
-fn row(input: &Input, reading: u32, sheet: &Sheet) -> Option<String> {
-    let text = literal(&input.text)?;
-    let labels = literal(&sheet.labels)?;
-    if input.text.len() > LONGEST || sheet.labels.len() > LABELS {
+fn row(sheet: &Sheet, reading: u32, said: &Said) -> Option<String> {
+    let text = literal(&sheet.text)?;
+    let labels = literal(&said.labels)?;
+    if sheet.text.len() > LONGEST || said.labels.len() > LABELS {
         return None;
     }
-    let mut lines = String::new();
-    for (start, end) in &input.lines {
-        lines.push_str(&format!("span {start} {end} ∷ "));
-    }
-    if let Some(place) = sheet.brace {
+    let lines: String = sheet.lines().map(|(start, end)| format!("span {start} {end} ∷ ")).collect();
+    if let Some(place) = said.brace {
         return Some(format!("refused-at {text} ({lines}[]) {reading} {place}"));
     }
-    let events: String = sheet.events.iter().map(event).collect();
+    let events: String = said.events.iter().map(event).collect();
     Some(format!("given {text} ({lines}[]) {reading} ({events}[]) {labels}"))
 }
 
 /// How often a sheet of its sort is taken, one in so many: links and containers always, a sheet of one Str never.
-fn one_in(sheet: &Sheet) -> u64 {
-    let has = |from: u32, to: u32| sheet.events.iter().any(|e| (from..=to).contains(&e[0]));
-    if sheet.brace.is_some() {
+pub fn one_in(said: &Said) -> u64 {
+    let has = |from: u32, to: u32| said.events.iter().any(|e| (from..=to).contains(&e[0]));
+    if said.brace.is_some() {
         16
     } else if has(33, 39) || has(44, 48) {
         1
@@ -70,7 +68,7 @@ fn one_in(sheet: &Sheet) -> u64 {
 
 /// The table for a seed.
 pub fn print(seed: u64) {
-    println!("-- Answers of the Rust (`compare/plain rows`): sheets of one line and of many, touching or with gaps, in both readings.");
+    println!("-- Answers of the Rust (`compare/run rows`): sheets of one line and of many, touching or with gaps, in both readings.");
     println!("use mathlib.Core.List.{{List, [], _∷_}}");
     println!("use Rattle.reading.specs.Events.{{event, homed, in-text}}");
     println!("use Rattle.reading.proofs.Sheets.{{Row, span, at-home, given, refused-at}}");
@@ -78,20 +76,21 @@ pub fn print(seed: u64) {
     println!("unfoldable pub sampled : List Row");
     println!("sampled =");
     let mut r = Random::new(seed);
-    let mut input = Input { text: Vec::new(), lines: Vec::new() };
+    let mut sheet = Sheet::default();
+    let mut said = Said::default();
     let mut printed = 0;
     while printed < ROWS {
-        text(&mut r, &mut input.text);
-        cut(&mut r, &input.text, &mut input.lines);
-        let Ok(characters) = std::str::from_utf8(&input.text) else {
+        text(&mut r, &mut sheet.text);
+        cut(&mut r, &mut sheet);
+        let Ok(characters) = std::str::from_utf8(&sheet.text) else {
             continue;
         };
         let reading = printed as u32 % 2;
-        let sheet = oracle(characters, &input.lines, reading).sheet;
-        if r.next() % one_in(&sheet) != 0 {
+        theirs::read(characters, &sheet.starts, &sheet.ends, reading, &mut said);
+        if r.next() % one_in(&said) != 0 {
             continue;
         }
-        if let Some(row) = row(&input, reading, &sheet) {
+        if let Some(row) = row(&sheet, reading, &said) {
             println!("    {}{row}", if printed == 0 { "" } else { "∷ " });
             printed += 1;
         }

@@ -1,66 +1,12 @@
 // Replays the stored answers of the Rust, case by case, and prints how many cases there were and how many differ.
 // A case begins with its sort: 0 the tokens of a line, 1 to 4 a scan ahead, 5 a run of hyphens, 6 a run of periods.
-ghost use Prim.Native.Nat.{_<_};
 use exports::Counts;
 use exports::Scanned;
 use exports::State;
-
-// A number of the sample, and the place behind it.
-struct Number {
-    value: u64,
-    next: usize,
-}
-
-// The place behind a case, and whether our answer is the stored one.
-struct Case {
-    next: usize,
-    same: bool,
-}
-
-struct Report {
-    cases: u64,
-    differ: u64,
-}
-
-// The number at a place, with the byte behind its digits.
-fn number_at(sample: &[u8], from: usize) -> Number {
-    let mut value = 0u64;
-    let mut at = from;
-    while at < sample.len() {
-        let b = sample[at];
-        at += 1;
-        if b < b'0' || b'9' < b {
-            return Number {
-                value: value,
-                next: at,
-            };
-        }
-        value = (value * 10 + digit(b)) % 4294967296;
-    }
-    Number {
-        value: value,
-        next: at,
-    }
-}
-
-fn digit(b: u8) -> u64
-    ensures { λ r. ⌜ r < 256 ⌝ }
-{
-    (b % 16) as u64
-}
-
-// The bytes of a line, one number each.
-fn fill(sample: &[u8], from: usize, line: &mut [u8]) -> usize {
-    let mut at = from;
-    let mut i = 0;
-    while i < line.len() {
-        let n = number_at(sample, at);
-        line[i] = (n.value % 256) as u8;
-        at = n.next;
-        i += 1;
-    }
-    at
-}
+use stored::Case;
+use stored::Report;
+use stored::fill;
+use stored::number_at;
 
 // Bit i of a pattern, which repeats.
 fn bit(pattern: u64, i: u64) -> bool {
@@ -223,9 +169,5 @@ fn replay(sample: &[u8]) -> Report {
 fn main() {
     let mut sample = [0u8; 524288];
     let n = io::read_full(0, &mut sample);
-    let r = replay(&sample[..n]);
-    io::print_decimal(1, r.cases);
-    io::write_all(1, b" cases, ");
-    io::print_decimal(1, r.differ);
-    io::write_all(1, b" differ\n");
+    stored::write_report(replay(&sample[..n]));
 }

@@ -1,0 +1,216 @@
+//! One sheet: the reader's answer and all rooms beside what the Rust and the questions of document 01 give, for rooms of many sizes.
+
+use crate::expect::Expect;
+use crate::laws::Laws;
+use crate::lending::{Lent, Sort, SURE};
+use crate::mivurakol::{self, Answer};
+use crate::model::Sizes;
+use crate::rooms::Rooms;
+use crate::sheet::{ascii, Sheet};
+use std::time::{Duration, Instant};
+
+/// How long a smaller sheet is looked for.
+const SEARCH: Duration = Duration::from_secs(20);
+
+/// How many calls there were, and of what sort the lists are.
+#[derive(Clone, Default)]
+pub struct Counts {
+    /// By code.
+    pub answers: [u64; 10],
+    pub lists: u64,
+    pub links: u64,
+    pub built: u64,
+    pub deep: u64,
+    pub over: u64,
+    pub lookups: u64,
+}
+
+/// How deep a list goes.
+fn depth(events: &[[u32; 7]]) -> usize {
+    let mut open = 0;
+    let mut deepest = 0;
+    for e in events {
+        open = (open + usize::from((33..=48).contains(&e[0]))).saturating_sub(usize::from(e[0] > 64));
+        deepest = deepest.max(open);
+    }
+    deepest
+}
+
+/// Whether a math's dollars stand on a line, and its backticks on the next.
+fn math_over(sheet: &Sheet, events: &[[u32; 7]]) -> bool {
+    let over = |e: &[u32; 7]| {
+        let next = sheet.ends.partition_point(|&end| end <= e[1] as usize);
+        sheet.ends.get(next).is_some_and(|&end| end < e[2] as usize)
+    };
+    events.iter().any(|e| (42..=43).contains(&e[0]) && over(e))
+}
+
+/// Calls the reader, and sees that all is as expected.
+pub struct Checker {
+    rooms: Rooms,
+    pub expect: Expect,
+    /// The sheet before it is lent.
+    before: Sheet,
+    laws: Laws,
+    /// How many lendings of a sort there were, in each reading.
+    turns: [[usize; 4]; 2],
+    pub sheets: u64,
+    pub counts: [Counts; 2],
+}
+
+impl Checker {
+    pub fn new(seed: u64) -> Self {
+        Checker {
+            rooms: Rooms::new(seed),
+            expect: Expect::new(),
+            before: Sheet::default(),
+            laws: Laws::default(),
+            turns: [[0; 4]; 2],
+            sheets: 0,
+            counts: Default::default(),
+        }
+    }
+
+    /// One call of what was asked about: the answer, and every number of every room.
+    pub fn call(&mut self, sheet: &Sheet, reading: u32, sizes: &Sizes) -> Result<Answer, String> {
+        let expected = self.expect.answer(sheet, reading, sizes);
+        self.before.copy(sheet);
+        let mut lent = self.rooms.lend(sizes);
+        let answer = mivurakol::read(&sheet.text, &sheet.starts, &sheet.ends, reading, &mut lent);
+        if *sheet != self.before {
+            return Err("the sheet is written to".to_string());
+        }
+        if answer != expected {
+            return Err(format!("{expected:?} is expected, the answer is {answer:?}"));
+        }
+        if expected.code == 0 && !self.expect.same_text {
+            for b in &mut self.rooms.labels.room_mut()[..expected.labels as usize] {
+                *b = ascii(*b);
+            }
+        }
+        let said = &self.expect.said;
+        match self.rooms.wrong(expected.code, &said.events, &said.labels) {
+            Some(wrong) => Err(format!("{wrong} after {}", expected.code)),
+            None => Ok(expected),
+        }
+    }
+
+    /// The event room and the label room, as the last call left them.
+    pub fn left(&self) -> (&[u32], &[u8]) {
+        (self.rooms.events.room(), self.rooms.labels.room())
+    }
+
+    fn lend(&mut self, sheet: &Sheet, reading: u32, lent: &Lent) -> Result<(), String> {
+        let sizes = self.expect.need.sizes(lent);
+        let answer = self.call(sheet, lent.reading.unwrap_or(reading), &sizes)?;
+        self.counts[reading as usize].answers[answer.code as usize] += 1;
+        Ok(())
+    }
+
+    /// The laws, and the label of each event with a home, after a call that was answered 0.
+    fn list(&mut self, sheet: &Sheet, reading: u32) -> Result<(), String> {
+        let labels = self.rooms.labels.room();
+        let counts = &mut self.counts[reading as usize];
+        let events = &self.expect.said.events;
+        for &[kind, _, _, home, start, end, _] in events {
+            if home == 0 {
+                continue;
+            }
+            let of = if home == 1 { &sheet.text } else { labels };
+            let expected = &of[start as usize..end as usize];
+            if !std::ptr::eq(mivurakol::label(&sheet.text, labels, home, start, end), expected) {
+                return Err(format!("the label at {home}, {start}..{end} differs"));
+            }
+            counts.lookups += 1;
+            counts.links += u64::from((44..=47).contains(&kind));
+        }
+        counts.lists += 1;
+        counts.built += u64::from(!labels.is_empty());
+        counts.deep += u64::from(depth(events) >= 16);
+        counts.over += u64::from(math_over(sheet, events));
+        self.laws.broken(sheet, reading, events).map_or(Ok(()), Err)
+    }
+
+    /// One sheet with one lending, and its list.
+    fn once(&mut self, sheet: &Sheet, reading: u32, lent: &Lent) -> Result<(), String> {
+        self.expect.ask(sheet, reading);
+        self.lend(sheet, reading, lent)?;
+        if self.expect.readable() {
+            self.lend(sheet, reading, &SURE)?;
+            self.list(sheet, reading)?;
+        }
+        Ok(())
+    }
+
+    /// The next lending of a sort.
+    fn turn(&mut self, reading: u32, sort: Sort) -> Lent {
+        let turn = &mut self.turns[reading as usize][sort as usize];
+        *turn += 1;
+        let some = sort.lendings();
+        some[*turn % some.len()]
+    }
+
+    /// One sheet in one reading, with the lending that is for every sheet and so many others. The lending that shows a difference.
+    fn check(&mut self, sheet: &Sheet, reading: u32, turns: usize) -> Result<(), Lent> {
+        self.expect.ask(sheet, reading);
+        self.lend(sheet, reading, &SURE).map_err(|_| SURE)?;
+        if self.expect.readable() {
+            self.list(sheet, reading).map_err(|_| SURE)?;
+        }
+        for sort in Sort::of(&self.expect) {
+            for _ in 0..turns {
+                let lent = self.turn(reading, *sort);
+                self.lend(sheet, reading, &lent).map_err(|_| lent)?;
+            }
+        }
+        Ok(())
+    }
+
+    /// Whether a sheet is right in both readings; if not, the smallest one that is found near it is printed. The readings take turns in so many
+    /// lendings that are not for every sheet.
+    pub fn right(&mut self, sheet: &Sheet, turns: usize) -> bool {
+        self.sheets += 1;
+        for reading in 0..2 {
+            let turns = if self.sheets % 2 == u64::from(reading) { turns } else { 0 };
+            if let Err(lent) = self.check(sheet, reading, turns) {
+                self.report(sheet, reading, &lent);
+                return false;
+            }
+        }
+        true
+    }
+
+    /// Tells of the smallest sheet near this one that differs too.
+    fn report(&mut self, sheet: &Sheet, reading: u32, lent: &Lent) {
+        let utf8 = sheet.characters().is_some();
+        let mut least = sheet.clone();
+        let started = Instant::now();
+        loop {
+            let mut near = least.smaller().take_while(|_| started.elapsed() < SEARCH);
+            let less = near.find(|s| s.characters().is_some() == utf8 && self.once(s, reading, lent).is_err());
+            drop(near);
+            let Some(less) = less else {
+                break;
+            };
+            least = less;
+        }
+        let wrong = self.once(&least, reading, lent).err().unwrap_or("only behind other calls".to_string());
+        self.print(&least, lent.reading.unwrap_or(reading), &self.expect.need.sizes(lent), &wrong);
+    }
+
+    /// Tells of a difference.
+    pub fn print(&self, sheet: &Sheet, reading: u32, sizes: &Sizes, wrong: &str) {
+        println!("difference: {wrong}");
+        println!("reading {reading}, {sizes:?}");
+        if sheet.text.len() > 2000 || sheet.starts.len() > 200 {
+            println!("a text of {} bytes, {} starts, {} ends", sheet.text.len(), sheet.starts.len(), sheet.ends.len());
+            return;
+        }
+        println!("text {:?} ({:?})", String::from_utf8_lossy(&sheet.text), sheet.text);
+        println!("starts {:?}, ends {:?}", sheet.starts, sheet.ends);
+        let (events, labels) = self.left();
+        let said = &self.expect.said;
+        println!("the Rust: events {:?}, labels {:?}, brace {:?}", said.events, said.labels, said.brace);
+        println!("ours: event room {events:?}, label room {labels:?}");
+    }
+}

@@ -1,0 +1,405 @@
+//! Random sheets: any text cut anyhow, shapes that such a text seldom has, marked-up ones, and damaged copies of these.
+
+use crate::random::{Random, TELLING};
+use crate::sheet::Sheet;
+
+/// What random texts are made of.
+const PIECES: &[&str] = &[
+    "a", "b", "é", "€", " ", "  ", "\t", "\n", "\r\n", "\x0b", "\x0c", "\\", "\\\\", "\\\n", "\\ \n", "\\ ", "$", "$$", "\\$", "`", "``", "```",
+    " `", "` ", " `` ", "$`", "$$`", "{=", "=}", "{=h}", "`{=h}", "[", "]", "(", ")", "![", "](", "][", "[]", "[a]", "[a](b)", "[a][b]",
+    "[a][]", "[^", "[^a]", "^}", "<", ">", "<a:b>", "<a@b", ":", ":a:", "::", "@", "*", "_", "^", "~", "{*", "*}", "{_", "_}", "{^", "{~",
+    "~}", "{-", "-}", "{+", "+}", "=", "+", "!", "|", "'", "\"", "{'", "'}", "{\"", "\"}", "-", "--", "---", "-----", ".", "..", "...", "....",
+    "}", "#", "text", "\0",
+];
+
+/// How far a text goes: mostly short, at times to 255 and beyond.
+fn length(r: &mut Random) -> usize {
+    match r.below(64) {
+        0 => r.below(700),
+        1..=4 => r.below(150),
+        5..=20 => r.below(50),
+        _ => r.below(20),
+    }
+}
+
+/// A text: any pieces, a few pieces over and over, long runs, or any bytes.
+pub fn text(r: &mut Random, out: &mut Vec<u8>) {
+    out.clear();
+    let n = length(r);
+    let sort = r.below(16);
+    let few: Vec<&str> = (0..2 + r.below(6)).map(|_| PIECES[r.below(PIECES.len())]).collect();
+    let links = ["[", "]", "](", "][", ")", "\n", "a", " ", "![", "`", "\\", "[]", "*", "..."];
+    let quiet = ["`", "``", " ", "\n", "\\", "a", "$", "{=h}", "  ", "\\`", "`` ", " `", "=", "."];
+    while out.len() < n {
+        let piece = match sort {
+            0..=2 => PIECES[r.below(PIECES.len())],
+            3..=7 => few[r.below(few.len())],
+            8..=10 => links[r.below(links.len())],
+            11..=12 => quiet[r.below(quiet.len())],
+            13 => {
+                let b = b"[*_`-.'$"[r.below(8)];
+                let times = 1 + if r.below(4) == 0 { 250 + r.below(10) } else { r.below(5) };
+                out.extend(std::iter::repeat_n(b, times));
+                few[r.below(few.len())]
+            }
+            14 => {
+                out.push(TELLING[r.below(TELLING.len())]);
+                ""
+            }
+            _ => {
+                out.push(r.next() as u8);
+                ""
+            }
+        };
+        out.extend(piece.as_bytes());
+    }
+    // A bare brace stands in few sheets.
+    if r.below(20) == 0 {
+        let at = r.below(out.len() + 1);
+        out.insert(at, b'{');
+    }
+}
+
+/// Lines of a text: one, one for each newline, or any, touching or with gaps, some of them empty.
+pub fn cut(r: &mut Random, sheet: &mut Sheet) {
+    let Sheet { text, starts, ends } = sheet;
+    starts.clear();
+    ends.clear();
+    let mut push = |start: usize, end: usize| {
+        starts.push(start);
+        ends.push(end);
+        starts.len()
+    };
+    let n = text.len();
+    let whole = |p: usize| p == n || text[p] & 0xc0 != 0x80;
+    let sort = r.below(8);
+    if sort < 2 {
+        push(0, n);
+        return;
+    }
+    let gaps = sort % 2 == 0;
+    let mut p = 0;
+    while p < n {
+        if gaps && r.below(2) == 0 {
+            p = (p + r.below(4)).min(n);
+            while !whole(p) {
+                p += 1;
+            }
+        }
+        let mut e = p;
+        if sort < 5 {
+            while e < n && (e == p || text[e - 1] != b'\n') {
+                e += 1;
+            }
+        } else {
+            e = (p + r.below(12)).min(n);
+        }
+        if r.below(16) == 0 {
+            e = (p + r.below(3)).min(n);
+        }
+        while !whole(e) {
+            e += 1;
+        }
+        let lines = push(p, e);
+        p = e;
+        if lines > 40 {
+            break;
+        }
+    }
+    if r.below(4) == 0 {
+        push(n, n);
+    }
+}
+
+/// What opens and closes: first those that nest in one another.
+const PAIRS: &[(&str, &str)] = &[
+    ("{*", "*}"), ("{_", "_}"), ("{^", "^}"), ("{~", "~}"), ("{=", "=}"), ("{-", "-}"), ("{+", "+}"), ("[", "](b)"), ("[", "][b]"), ("![", "](b)"),
+    ("![", "][]"), ("*", "*"), ("_", "_"), ("^", "^"), ("~", "~"), ("'", "'"), ("\"", "\""), ("{'", "'}"), ("{\"", "\"}"), ("[", "]"), ("[a](", ")"),
+];
+
+/// Containers in one another: all of them closed, or any, some of them left open.
+fn nested(r: &mut Random, out: &mut Vec<u8>) {
+    out.clear();
+    let most = [3, 3, 3, 6, 6, 12, 30, 120][r.below(8)];
+    let (pairs, loose) = if r.below(2) == 0 { (11, false) } else { (PAIRS.len(), true) };
+    let between = ["a", "a", "b", "\n", "", " ", "-", "`"];
+    let mut open = Vec::new();
+    for _ in 0..1 + r.below(most) {
+        let (enter, exit) = PAIRS[r.below(pairs)];
+        out.extend(enter.as_bytes());
+        out.extend(between[r.below(if loose { 8 } else { 4 })].as_bytes());
+        open.push(exit);
+    }
+    while let Some(exit) = open.pop() {
+        if loose && r.below(8) == 0 {
+            continue;
+        }
+        out.extend(exit.as_bytes());
+        out.extend(between[r.below(if loose { 8 } else { 4 })].as_bytes());
+    }
+}
+
+/// Runs of backticks of a few lengths, most of them around 255, so that many close.
+fn backticks(r: &mut Random, out: &mut Vec<u8>) {
+    out.clear();
+    let mut len = || [1, 2, 254, 255, 255, 256, 256, 257, 511, 512][r.below(10)];
+    let lens = [len(), len()];
+    let between = ["a", " ", "\n", "\\", "$", "{=h}", "a ", " a", "  ", "*"];
+    for _ in 0..1 + r.below(6) {
+        out.extend(between[r.below(between.len())].as_bytes());
+        out.extend(std::iter::repeat_n(b'`', lens[r.below(2)]));
+    }
+    out.extend(between[r.below(between.len())].as_bytes());
+}
+
+/// Lines that end behind dollars, and begin with backticks: touching, or with a byte between them.
+fn dollars(r: &mut Random, sheet: &mut Sheet) {
+    let Sheet { text, starts, ends } = sheet;
+    text.clear();
+    starts.clear();
+    ends.clear();
+    starts.push(0);
+    for _ in 0..1 + r.below(5) {
+        for _ in 0..r.below(4) {
+            text.extend(["a", "`", "``", " ", "\\", "\n", "*"][r.below(7)].as_bytes());
+        }
+        text.extend(["$", "$$", "$$$", "\\$", "a$"][r.below(5)].as_bytes());
+        ends.push(text.len());
+        if r.below(3) == 0 {
+            text.push(b"$\\ a`\n"[r.below(6)]);
+        }
+        starts.push(text.len());
+        text.extend(["`", "``", "$`", "`a`", "`{=h}"][r.below(5)].as_bytes());
+    }
+    ends.push(text.len());
+}
+
+/// A marked-up sheet while it is written.
+struct Writer<'a> {
+    r: &'a mut Random,
+    sheet: &'a mut Sheet,
+    /// What stands between two lines.
+    gap: &'static str,
+}
+
+impl Writer<'_> {
+    fn put(&mut self, s: &str) {
+        self.sheet.text.extend(s.as_bytes());
+    }
+
+    fn of(&mut self, some: &[&str]) {
+        let s = some[self.r.below(some.len())];
+        self.put(s);
+    }
+
+    fn newline(&mut self) {
+        self.of(&["\n", "\n", "\n", "\r\n", " \n", "\\\n"]);
+        self.sheet.ends.push(self.sheet.text.len());
+        self.put(self.gap);
+        self.sheet.starts.push(self.sheet.text.len());
+    }
+
+    fn word(&mut self) {
+        self.of(&["12", "R-07", "left", "x", "cabinet 4", "é", "door", "a b", "K1", "3.5 mm", "e.g.", "it's", "1--2", "and so on..."]);
+    }
+
+    /// Something that opens, more, and what closes it.
+    fn around(&mut self, open: &str, close: &str, depth: usize) {
+        self.put(open);
+        self.content(depth);
+        self.put(close);
+    }
+
+    fn destination(&mut self) {
+        self.of(&["b", "u:x", "a/b.c", "b c", "*b*", "\\)", ""]);
+        if self.r.below(3) == 0 {
+            self.newline();
+            self.of(&["c", "", "d e", "[x](y"]);
+        }
+    }
+
+    fn link(&mut self, depth: usize) {
+        let image = if self.r.below(3) == 0 { "![" } else { "[" };
+        match self.r.below(4) {
+            0 => self.around(image, "][]", depth),
+            1 => {
+                self.around(image, "][", depth);
+                self.destination();
+                self.put("]");
+            }
+            _ => {
+                self.around(image, "](", depth);
+                self.destination();
+                self.put(")");
+            }
+        }
+    }
+
+    fn verbatim(&mut self) {
+        self.of(&["", "", "$", "$$", "\\$"]);
+        let run = ["`", "``", "```"][self.r.below(3)];
+        self.put(run);
+        self.of(&["", " ", "\t "]);
+        for _ in 0..1 + self.r.below(3) {
+            self.of(&["R-07", "a", "\\", "*", "````", "x y", "{", "\\`"]);
+            if self.r.below(8) == 0 {
+                self.newline();
+            }
+        }
+        self.of(&["", " ", "  "]);
+        self.put(run);
+        self.of(&["", "", "", "{=html}", "\\*"]);
+    }
+
+    fn item(&mut self, depth: usize) {
+        let (open, close) = PAIRS[self.r.below(19)];
+        match self.r.below(24) {
+            0..=6 => self.word(),
+            7..=9 => self.put(" "),
+            10 => self.newline(),
+            11..=12 => self.verbatim(),
+            13 => self.of(&["<http://a.b>", "<a@b.c>", ":bolt:", ":+1:", "[^1]", "[^note a]"]),
+            14 => self.of(&["\\*", "\\ ", "\\\\", "\\a", "--", "---", "...", "......", "-----"]),
+            15..=18 if depth < 4 => self.link(depth + 1),
+            _ if depth < 4 => self.around(open, close, depth + 1),
+            _ => self.word(),
+        }
+    }
+
+    fn content(&mut self, depth: usize) {
+        for _ in 0..1 + self.r.below(4) {
+            self.item(depth);
+        }
+    }
+}
+
+/// A marked-up sheet: each line with its newline, with or without a quote mark before it.
+pub fn marked_up(r: &mut Random, sheet: &mut Sheet) {
+    let Sheet { text, starts, ends } = sheet;
+    text.clear();
+    starts.clear();
+    ends.clear();
+    starts.push(0);
+    let gap = ["", "", "> ", "  "][r.below(4)];
+    let depth = r.below(4);
+    Writer { r, sheet, gap }.content(depth);
+    sheet.ends.push(sheet.text.len());
+}
+
+/// Line lists that are none: a place beyond, before or behind where it should be, lines in another order, a start or an end too many.
+fn damage_lines(r: &mut Random, sheet: &mut Sheet) {
+    let n = sheet.text.len();
+    let lines = sheet.starts.len().min(sheet.ends.len());
+    let far = [n + 1, n + 9, 1 << 32, (1 << 32) + 1, 1 << 63, usize::MAX][r.below(6)];
+    if lines == 0 || r.below(4) == 0 {
+        let some = if r.below(2) == 0 { &mut sheet.starts } else { &mut sheet.ends };
+        match r.below(3) {
+            0 => some.push([0, n, far][r.below(3)]),
+            1 => drop(some.pop()),
+            _ => some.clear(),
+        }
+        return;
+    }
+    let (i, j) = (r.below(lines), r.below(lines));
+    match r.below(7) {
+        0 => sheet.starts[i] = far,
+        1 => sheet.ends[i] = far,
+        2 => std::mem::swap(&mut sheet.starts[i], &mut sheet.ends[i]),
+        3 => sheet.starts[i] = sheet.starts[i].saturating_sub(1 + r.below(3)),
+        4 => sheet.ends[i] = sheet.ends[i].saturating_add(1 + r.below(3)),
+        5 => {
+            sheet.starts.swap(i, j);
+            sheet.ends.swap(i, j);
+        }
+        _ => {
+            sheet.starts.insert(i, sheet.starts[j]);
+            sheet.ends.insert(i, sheet.ends[j]);
+        }
+    }
+}
+
+/// Moves where a line ends, and with it, or not, where the next one starts.
+fn move_edge(r: &mut Random, sheet: &mut Sheet) {
+    let n = sheet.text.len();
+    if sheet.ends.is_empty() {
+        return;
+    }
+    let i = r.below(sheet.ends.len());
+    let end = &mut sheet.ends[i];
+    *end = (end.saturating_add(r.below(4))).saturating_sub(r.below(4)).min(n);
+    let end = *end;
+    if r.below(4) != 0 {
+        if let Some(start) = sheet.starts.get_mut(i + 1) {
+            *start = end + r.below(2);
+        }
+    }
+}
+
+/// Damages a sheet in one to three places.
+pub fn damage(r: &mut Random, sheet: &mut Sheet) {
+    for _ in 0..1 + r.below(3) {
+        let n = sheet.text.len();
+        let b = if r.below(4) == 0 { r.next() as u8 } else { TELLING[r.below(TELLING.len())] };
+        match r.below(10) {
+            0..=2 if n > 0 => sheet.text[r.below(n)] = b,
+            3..=4 if n > 0 => sheet.take_out(r.below(n), 1),
+            5..=6 => sheet.put_in(r.below(n + 1), b),
+            7..=8 => move_edge(r, sheet),
+            _ => damage_lines(r, sheet),
+        }
+    }
+}
+
+/// A random sheet. Whether it is a damaged one.
+pub fn any(r: &mut Random, sheet: &mut Sheet) -> bool {
+    match r.below(128) {
+        0..=3 => dollars(r, sheet),
+        4 => {
+            backticks(r, &mut sheet.text);
+            cut(r, sheet);
+        }
+        5..=12 => {
+            nested(r, &mut sheet.text);
+            cut(r, sheet);
+        }
+        13..=24 => marked_up(r, sheet),
+        25..=56 => {
+            let good = r.below(4);
+            match good {
+                0 => nested(r, &mut sheet.text),
+                _ => marked_up(r, sheet),
+            }
+            if good < 2 {
+                cut(r, sheet);
+            }
+            damage(r, sheet);
+            return true;
+        }
+        _ => {
+            text(r, &mut sheet.text);
+            cut(r, sheet);
+        }
+    }
+    false
+}
+
+/// What random sheets are counted by.
+pub const SHAPES: [&str; 8] =
+    ["of one line", "of more", "with gaps", "with touching lines", "with empty lines", "with 255 backticks", "with 256 and more", "not UTF-8"];
+
+/// Of a sheet whose lines are fit.
+pub fn shapes(sheet: &Sheet) -> [bool; 8] {
+    let Sheet { text, starts, ends } = sheet;
+    let two = |test: fn(usize, usize) -> bool| ends.iter().zip(starts.iter().skip(1)).any(|(&end, &start)| test(end, start));
+    let runs = |test: fn(usize) -> bool| sheet.lines().any(|l| text[l.0..l.1].split(|&b| b != b'`').any(|run| test(run.len())));
+    [
+        starts.len() == 1,
+        starts.len() > 1,
+        two(|end, start| end < start),
+        two(|end, start| end == start),
+        sheet.lines().any(|l| l.0 == l.1),
+        runs(|n| n == 255),
+        runs(|n| n > 255),
+        sheet.characters().is_none(),
+    ]
+}

@@ -1,0 +1,4 @@
+// `sheet`, on 1,001 bytes.
+fn main() {
+    show::show_input();
+}
