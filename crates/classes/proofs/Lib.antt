@@ -2,3 +2,4 @@
 pub mod Rule
 pub mod Runs
 pub mod Parts
+mod Bits

@@ -4,7 +4,7 @@ mod table;
 ghost use mathlib.Core.Path.{_≡_};
 ghost use Prim.Native.Nat.{_<_};
 ghost use lib.Dec.{eqb};
-ghost use Rattle.classes.specs.Classes.{blank, punctuation, flagged, Ruled};
+ghost use Rattle.classes.specs.Classes.{special, blank, punctuation, flagged, Ruled};
 ghost use Rattle.classes.specs.Sets.{inSet, run};
 use table::classes;
 
@@ -15,6 +15,11 @@ const BLANK: u8 = 2;
 const PUNCTUATION: u8 = 4;
 
 const ALPHANUMERIC: u8 = 8;
+
+// The special bytes below 64, and from 64 on: bit b % 64.
+const SPECIAL_LOW: u64 = 3747117511288554496;
+
+const SPECIAL_HIGH: u64 = 8646911293007069184;
 
 // A set of bytes that a run is made of.
 pub enum Set {
@@ -43,11 +48,11 @@ fn has(flags: &[u8; 256], b: u8, flag: u8) -> bool
     flags[b as usize] / flag % 2 == 1
 }
 
+// Asked of most tokens, so the table is not laid out for it.
 pub fn is_blank(b: u8) -> bool
     ensures { λ r. ⌜ r ≡ blank b ⌝ }
 {
-    let flags = classes();
-    has(&flags, b, BLANK)
+    (b == b' ') | (b == b'\t') | (b == b'\n') | (b == 12) | (b == b'\r')
 }
 
 pub fn is_punctuation(b: u8) -> bool
@@ -75,6 +80,28 @@ fn within(flags: &[u8; 256], b: u8, set: Set) -> bool
         Set::Label => !((b == b'[') | (b == b']') | (b == b'\n')),
         Set::Format => !((b == b'{') | (b == b'}') | has(flags, b, BLANK)),
     }
+}
+
+// Asked of every byte of text: without the table, too.
+fn is_special(b: u8) -> bool
+    ensures { λ r. ⌜ r ≡ special b ⌝ }
+{
+    let bits = if b < 64 { SPECIAL_LOW } else { SPECIAL_HIGH };
+    (b < 128) & ((bits >> (b % 64)) % 2 == 1)
+}
+
+// How many bytes at the front are text.
+pub fn eat_plain(s: &[u8]) -> usize
+    ensures { λ r. ⌜ r ≡ run (inSet Set.Plain) (now (s .entry)) ⌝ }
+{
+    let mut n = 0;
+    while n < s.len() {
+        if is_special(s[n]) {
+            return n;
+        }
+        n += 1;
+    }
+    n
 }
 
 // How many bytes at the front are of a set.

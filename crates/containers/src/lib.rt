@@ -90,8 +90,7 @@ fn takes_along(
     let n = p.openers;
     rooms::push_opener(openers, n, o);
     let c = p.cursor;
-    let ahead = c.next(line);
-    let behind = ahead.cursor;
+    let behind = c.skip(line);
     let mut out = rooms::moved(p, behind);
     out.openers = n + 1;
     atoms::put(line, m, 1, h, out, queue)
@@ -163,7 +162,7 @@ fn may_open(line: &[u8], m: Margin, h: Span, sort: Sort, p: Parser) -> bool
 }
 
 // An opener, and its event: what it is if it is never closed.
-fn open_as(
+pub fn open_as(
     line: &[u8],
     m: Margin,
     h: Span,

@@ -10,6 +10,7 @@ ghost use Rattle.rooms.specs.Standing.{stands, viewed, Stepped, Changed, Room, 
 ghost use Rattle.inline.specs.Asks.{Before, Lined, Sheeted, StandsFor, ending, overOf, Closing};
 ghost use Rattle.inline.specs.Lines.{lines-of};
 use lex::Cursor;
+use lex::Kind;
 use lex::Next;
 use reading::Inside;
 use reading::Link;
@@ -50,8 +51,9 @@ fn parse_event(
     let kind = t.kind;
     let w = p.inside;
     match w {
-        Inside::No => {
-            outside::outside(
+        Inside::No => match kind {
+            Kind::Text => atoms::put(line, m, 1, h, out, queue),
+            _ => outside::outside(
                 text,
                 line,
                 m,
@@ -61,8 +63,8 @@ fn parse_event(
                 queue,
                 openers,
                 labels,
-            )
-        }
+            ),
+        },
         Inside::Verbatim(v) => verbatim::in_verbatim(line, m, h, t, v, reading, out, queue),
     }
 }

@@ -155,6 +155,23 @@ impl Cursor {
         }
     }
 
+    // The cursor behind the next token.
+    pub fn skip(self, src: &[u8]) -> Cursor
+        ensures { λ r. ⌜ r ≡ nextOf (now (src .entry)) self .cursor ⌝ }
+    {
+        let held = self.next;
+        match held {
+            Next::Some(t) => {
+                let taken = self.take(src, t);
+                taken.cursor
+            }
+            Next::None => {
+                let lexed = self.next_token(src);
+                lexed.cursor
+            }
+        }
+    }
+
     // The held token is used up. One that does not lie within the line is none.
     fn take(self, src: &[u8], t: Token) -> Lexed
         ensures { λ r. ⌜ r ≡ takenOf (now (src .entry)) self t ⌝ }
@@ -375,7 +392,7 @@ fn begun(s: &[u8]) -> Token
     match start_of(s[0]) {
         Start::Text => Token {
             kind: Kind::Text,
-            len: classes::eat_while(s, Set::Plain),
+            len: classes::eat_plain(s),
         },
         Start::Sole(kind) => Token { kind: kind, len: 1 },
         Start::Closing(kind, d) => maybe_eat_close_brace(s, kind, d),

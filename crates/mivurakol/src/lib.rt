@@ -38,8 +38,12 @@ pub extern "C" fn mivurakol_read(
     openers: &mut [u32],
     labels: &mut [u8],
 ) -> Answer
-    ensures { λ r. ⌜ told (answerOf r) (now (events .exit)) (now (queue .exit)) (now (openers .exit)) (now (labels .exit)) ≡ outcome (now (text .entry)) (lines-of (now (starts .entry)) (now (ends .entry))) reading (lent (now (events .entry)) (now (queue .entry)) (now (openers .entry)) (now (labels .entry))) ⌝ }
-    ensures { λ r. ⌜ (r .code ≡ 0 → Accepted (now (text .entry)) (lines-of (now (starts .entry)) (now (ends .entry))) reading (lent (now (events .entry)) (now (queue .entry)) (now (openers .entry)) (now (labels .entry))) (told (answerOf r) (now (events .exit)) (now (queue .exit)) (now (openers .exit)) (now (labels .exit)))) ⌝ }
+    ensures { λ r. ⌜ told (answerOf r) (now (events .exit)) (now (queue .exit)) (now (openers .exit)) (now (labels .exit)) ≡ outcome (now (text
+        .entry)) (lines-of (now (starts .entry)) (now (ends .entry))) reading (lent (now (events .entry)) (now (queue .entry)) (now (openers
+        .entry)) (now (labels .entry))) ⌝ }
+    ensures { λ r. ⌜ (r .code ≡ 0 → Accepted (now (text .entry)) (lines-of (now (starts .entry)) (now (ends .entry))) reading (lent (now (events
+        .entry)) (now (queue .entry)) (now (openers .entry)) (now (labels .entry))) (told (answerOf r) (now (events .exit)) (now (queue .exit)) (now
+        (openers .exit)) (now (labels .exit)))) ⌝ }
     ensures { λ r. ⌜ (total (lines-of (now (starts .entry)) (now (ends .entry))) + 1 ≤ length (now (events .entry)) / 7 → r .code ≡ 9 → ⊥) ⌝ }
 {
     let a = reader::read(text, starts, ends, reading, events, queue, openers, labels);

@@ -1,3 +1,4 @@
 pub mod Ahead
 pub mod Caret
 pub mod Told
+pub mod Alone

@@ -13,8 +13,6 @@ ghost use Rattle.links.specs.Linked.{sheetOf};
 ghost use Rattle.containers.specs.Ready.{Ready, Shelving};
 ghost use Rattle.outside.specs.Outside.{refusing, bracketing, Ended};
 use lex::Next;
-use reading::Marks;
-use reading::Opens;
 use reading::Place;
 use reading::Refused;
 use reading::Role;
@@ -23,28 +21,6 @@ use rooms::Margin;
 use rooms::Parser;
 use rooms::Span;
 use scan::Ahead;
-
-// A token that opens and closes nothing.
-fn plain(kind: u32) -> Marks
-    ensures { λ r. ⌜ r ≡ tokens.plain kind ⌝ }
-{
-    Marks {
-        opens: Opens::None,
-        closes: 0,
-        alone: kind,
-    }
-}
-
-// `[` and `[^` open a span.
-fn bracket() -> Marks
-    ensures { λ r. ⌜ r ≡ tokens.bracket ⌝ }
-{
-    Marks {
-        opens: Opens::Some(Sort::Span),
-        closes: 0,
-        alone: 1,
-    }
-}
 
 // `<`: an autolink if the scan accepts.
 fn parse_autolink(
@@ -64,7 +40,7 @@ fn parse_autolink(
         (now (line .entry))) (here h p) (autolinkOf (drop (h .to) (now (line .entry)))))) ⌝ }
 {
     let Ahead::Some(n) = scan::ahead_autolink(line, h.to) else {
-        return containers::parse_container(text, line, m, h, plain(1), p, queue, openers, labels);
+        return atoms::put(line, m, 1, h, p, queue);
     };
     atoms::autolinked(m, h, n, p, queue)
 }
@@ -87,7 +63,7 @@ fn parse_symbol(
         (now (line .entry))) (here h p) (symbolOf (drop (h .to) (now (line .entry)))))) ⌝ }
 {
     let Ahead::Some(n) = scan::ahead_symbol(line, h.to) else {
-        return containers::parse_container(text, line, m, h, plain(1), p, queue, openers, labels);
+        return atoms::put(line, m, 1, h, p, queue);
     };
     atoms::named(m, h, 13, n, p, queue)
 }
@@ -110,7 +86,7 @@ fn noted(
         (now (line .entry))) (here h p) (footnoteOf (drop (h .to) (now (line .entry)))))) ⌝ }
 {
     let Ahead::Some(n) = scan::ahead_footnote(line, h.to) else {
-        return containers::parse_container(text, line, m, h, bracket(), p, queue, openers, labels);
+        return containers::open_as(line, m, h, Sort::Span, p, queue, openers);
     };
     atoms::named(m, h, 14, n, p, queue)
 }
@@ -138,22 +114,11 @@ fn parse_footnote_reference(
     let next = ahead.token;
     let out = rooms::moved(p, held);
     let Next::Some(t) = next else {
-        return containers::parse_container(
-            text,
-            line,
-            m,
-            h,
-            bracket(),
-            out,
-            queue,
-            openers,
-            labels,
-        );
+        return containers::open_as(line, m, h, Sort::Span, out, queue, openers);
     };
     let kind = t.kind;
     if tables::is_caret(tables::role_of(kind)) {
-        let lexed = held.next(line);
-        let behind = lexed.cursor;
+        let behind = held.skip(line);
         let both = Span {
             from: h.from,
             to: h.to + t.len,
@@ -169,7 +134,7 @@ fn parse_footnote_reference(
             labels,
         );
     }
-    containers::parse_container(text, line, m, h, bracket(), out, queue, openers, labels)
+    containers::open_as(line, m, h, Sort::Span, out, queue, openers)
 }
 
 // A bare opening brace: the sheet is refused there.
@@ -216,7 +181,7 @@ fn backticks(
     if h.to - h.from <= 255 {
         return verbatim::opens_verbatim(m, h, p, queue);
     }
-    containers::parse_container(text, line, m, h, plain(1), p, queue, openers, labels)
+    atoms::put(line, m, 1, h, p, queue)
 }
 
 // Two hyphens and more are dashes.
@@ -237,7 +202,7 @@ fn hyphens(
         (now (line .entry))) (here h p) Role.Hyphens)) ⌝ }
 {
     if h.to - h.from < 2 {
-        return containers::parse_container(text, line, m, h, plain(1), p, queue, openers, labels);
+        return atoms::put(line, m, 1, h, p, queue);
     }
     atoms::dashes(m, h, p, queue)
 }
@@ -267,17 +232,7 @@ pub fn outside(
         Role::Lt => parse_autolink(text, line, m, h, p, queue, openers, labels),
         Role::Colon => parse_symbol(text, line, m, h, p, queue, openers, labels),
         Role::Bracket => parse_footnote_reference(text, line, m, h, p, queue, openers, labels),
-        Role::Paren => containers::parse_container(
-            text,
-            line,
-            m,
-            h,
-            plain(1),
-            p,
-            queue,
-            openers,
-            labels,
-        ),
+        Role::Paren => atoms::put(line, m, 1, h, p, queue),
         Role::Periods => atoms::dots(line, m, h, p, queue),
         Role::Hyphens => hyphens(text, line, m, h, p, queue, openers, labels),
         Role::Other(k) => containers::parse_container(

@@ -287,7 +287,8 @@ fn refuse(
     openers: &mut [u32],
     labels: &mut [u8],
 ) -> Answer
-    ensures { λ r. ⌜ told r (now (events .exit)) (now (queue .exit)) (now (openers .exit)) (now (labels .exit)) ≡ refuses code place (cleared (lent (now (events .entry)) (now (queue .entry)) (now (openers .entry)) (now (labels .entry)))) ⌝ }
+    ensures { λ r. ⌜ told r (now (events .exit)) (now (queue .exit)) (now (openers .exit)) (now (labels .exit)) ≡ refuses code place (cleared (lent
+        (now (events .entry)) (now (queue .entry)) (now (openers .entry)) (now (labels .entry)))) ⌝ }
 {
     clear(events);
     clear_work(queue, openers);
@@ -323,7 +324,8 @@ fn accept(
     requires { ⌜ count < 2 ^ 32 ⌝ }
     requires { ⌜ bytes ≤ length (now labels) ⌝ }
     requires { ⌜ bytes < 2 ^ 32 ⌝ }
-    ensures { λ r. ⌜ told r (now (events .exit)) (now (queue .exit)) (now (openers .exit)) (now (labels .exit)) ≡ accepts count bytes (lent (now (events .entry)) (now (queue .entry)) (now (openers .entry)) (now (labels .entry))) ⌝ }
+    ensures { λ r. ⌜ told r (now (events .exit)) (now (queue .exit)) (now (openers .exit)) (now (labels .exit)) ≡ accepts count bytes (lent (now
+        (events .entry)) (now (queue .entry)) (now (openers .entry)) (now (labels .entry))) ⌝ }
 {
     let records = count * 7;
     clear_behind(events, records);
@@ -347,7 +349,9 @@ fn hand_out(
 ) -> Answer
     requires { ⌜ p .refused ≡ Refused.No ⌝ }
     requires { ⌜ Parsed p (now queue) (now labels) ⌝ }
-    ensures { λ r. ⌜ told r (now (events .exit)) (now (queue .exit)) (now (openers .exit)) (now (labels .exit)) ≡ handed-out (drain (events-of (p .events) (now (queue .entry)))) (take (p .labels) (now (labels .entry))) (lent (now (events .entry)) (now (queue .entry)) (now (openers .entry)) (now (labels .entry))) ⌝ }
+    ensures { λ r. ⌜ told r (now (events .exit)) (now (queue .exit)) (now (openers .exit)) (now (labels .exit)) ≡ handed-out (drain (events-of (p
+        .events) (now (queue .entry)))) (take (p .labels) (now (labels .entry))) (lent (now (events .entry)) (now (queue .entry)) (now (openers
+        .entry)) (now (labels .entry))) ⌝ }
 {
     let n = p.events;
     let bytes = p.labels;
@@ -393,7 +397,9 @@ fn judge(
     labels: &mut [u8],
 ) -> Answer
     requires { ⌜ Parsed p (now queue) (now labels) ⌝ }
-    ensures { λ r. ⌜ told r (now (events .exit)) (now (queue .exit)) (now (openers .exit)) (now (labels .exit)) ≡ judged (p .refused) (p .fits) (stands p (now (queue .entry)) (now (openers .entry)) (now (labels .entry))) (lent (now (events .entry)) (now (queue .entry)) (now (openers .entry)) (now (labels .entry))) ⌝ }
+    ensures { λ r. ⌜ told r (now (events .exit)) (now (queue .exit)) (now (openers .exit)) (now (labels .exit)) ≡ judged (p .refused) (p .fits)
+        (stands p (now (queue .entry)) (now (openers .entry)) (now (labels .entry))) (lent (now (events .entry)) (now (queue .entry)) (now (openers
+        .entry)) (now (labels .entry))) ⌝ }
 {
     let refused = p.refused;
     let brace = brace_of(refused);
@@ -415,8 +421,12 @@ pub fn read(
     openers: &mut [u32],
     labels: &mut [u8],
 ) -> Answer
-    ensures { λ r. ⌜ told r (now (events .exit)) (now (queue .exit)) (now (openers .exit)) (now (labels .exit)) ≡ outcome (now (text .entry)) (lines-of (now (starts .entry)) (now (ends .entry))) reading (lent (now (events .entry)) (now (queue .entry)) (now (openers .entry)) (now (labels .entry))) ⌝ }
-    ensures { λ r. ⌜ (r .code ≡ 0 → Accepted (now (text .entry)) (lines-of (now (starts .entry)) (now (ends .entry))) reading (lent (now (events .entry)) (now (queue .entry)) (now (openers .entry)) (now (labels .entry))) (told r (now (events .exit)) (now (queue .exit)) (now (openers .exit)) (now (labels .exit)))) ⌝ }
+    ensures { λ r. ⌜ told r (now (events .exit)) (now (queue .exit)) (now (openers .exit)) (now (labels .exit)) ≡ outcome (now (text .entry))
+        (lines-of (now (starts .entry)) (now (ends .entry))) reading (lent (now (events .entry)) (now (queue .entry)) (now (openers .entry)) (now
+        (labels .entry))) ⌝ }
+    ensures { λ r. ⌜ (r .code ≡ 0 → Accepted (now (text .entry)) (lines-of (now (starts .entry)) (now (ends .entry))) reading (lent (now (events
+        .entry)) (now (queue .entry)) (now (openers .entry)) (now (labels .entry))) (told r (now (events .exit)) (now (queue .exit)) (now (openers
+        .exit)) (now (labels .exit)))) ⌝ }
     ensures { λ r. ⌜ (total (lines-of (now (starts .entry)) (now (ends .entry))) + 1 ≤ length (now (events .entry)) / 7 → r .code ≡ 9 → ⊥) ⌝ }
 {
     let asked = questions(text, starts, ends, reading, queue.len(), openers.len());

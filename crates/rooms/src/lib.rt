@@ -10,6 +10,8 @@ ghost use Rattle.reading.specs.Containers.{seek as sought};
 ghost use Rattle.rooms.specs.Records.{eventAt, events, encode, homeAs, openerAt, opens, place};
 ghost use Rattle.rooms.specs.Standing.{moved as movedTo, insideOf};
 use lex::Cursor;
+use lex::Next;
+use lex::Token;
 use reading::Event;
 use reading::Inside;
 use reading::Last;
@@ -17,6 +19,7 @@ use reading::Link;
 use reading::Opener;
 use reading::Place;
 use reading::Refused;
+use reading::Verbatim;
 
 // What a reading is at between two tokens: the cursor in the line, how many records the queue and the openers hold, the open verbatim, the
 // newest event, the label bytes built and whether all of them fitted, the next link's number, and the first bare brace.
@@ -58,13 +61,70 @@ pub enum Found {
     Nothing,
 }
 
+// The same token, cursor, or place as to verbatim, made anew field by field. Where a whole one is copied, so are the bytes between its fields,
+// again and again: half of a reading's time (docs/BENCHMARK.md).
+fn same_next(next: Next) -> Next
+    ensures { λ r. ⌜ r ≡ next ⌝ }
+{
+    match next {
+        Next::Some(t) => {
+            let kind = t.kind;
+            Next::Some(Token {
+                kind: kind,
+                len: t.len,
+            })
+        }
+        Next::None => Next::None,
+    }
+}
+
+fn same_cursor(c: Cursor) -> Cursor
+    ensures { λ r. ⌜ r ≡ c ⌝ }
+{
+    let next = c.next;
+    Cursor {
+        pos: c.pos,
+        escape: c.escape,
+        next: same_next(next),
+        verbatim: c.verbatim,
+    }
+}
+
+fn same_inside(w: Inside) -> Inside
+    ensures { λ r. ⌜ r ≡ w ⌝ }
+{
+    match w {
+        Inside::Verbatim(v) => Inside::Verbatim(Verbatim {
+            event: v.event,
+            len: v.len,
+            seen: v.seen,
+            run: v.run,
+            keep: v.keep,
+            here: v.here,
+        }),
+        Inside::No => Inside::No,
+    }
+}
+
 // The parser at another cursor.
 pub fn moved(p: Parser, c: Cursor) -> Parser
     ensures { λ r. ⌜ r ≡ movedTo p c ⌝ }
 {
-    let mut out = p;
-    out.cursor = c;
-    out
+    let w = p.inside;
+    let last = p.last;
+    let links = p.links;
+    let refused = p.refused;
+    Parser {
+        cursor: same_cursor(c),
+        events: p.events,
+        openers: p.openers,
+        inside: same_inside(w),
+        last: last,
+        labels: p.labels,
+        fits: p.fits,
+        links: links,
+        refused: refused,
+    }
 }
 
 // The parser in a verbatim, or out of it.
@@ -79,7 +139,7 @@ pub fn inside(p: Parser, w: Inside) -> Parser
         cursor: cursor,
         events: p.events,
         openers: p.openers,
-        inside: w,
+        inside: same_inside(w),
         last: last,
         labels: p.labels,
         fits: p.fits,

@@ -1,49 +1,61 @@
--- `outside::noted` meets its contract, by the laws of `Ahead`.
-use mathlib.Core.Path.{sym, _∙_}
+-- `outside::noted` meets its contract, by the laws of `Ahead` and `Alone`.
+use mathlib.Core.Path.{refl, sym, _∙_}
 use native.Mathlib.Omega.{arith}
-use borrow.Author.Needs.{needs}
 use lib.ListN.{drop}
 use Rattle.scan.proofs.Laws.{footnote-some}
 use Rattle.links.specs.Linked.{sheetOf}
+use Rattle.reading.specs.Tokens.{bracket}
 use Rattle.rooms.specs.Standing.{viewed, here}
 use Rattle.outside.proofs.Ahead.{scan-within, noted-else, noted-some}
+use Rattle.outside.proofs.Alone.{opening}
+use borrow.Author.Needs.{needs}
 use Rattle.outside.proofs.noted.Statement.{statement}
 use Rattle.outside.proofs.noted.Tie as tie
+use Rattle.outside.proofs.noted.Reads as reads
+use Rattle.outside.proofs.noted.Lts as lts
+use Rattle.atoms.proofs.named.Reads as named-reads
+use Rattle.containers.proofs.open_as.Reads as open-as-reads
+use Rattle.scan.proofs.ahead_footnote.Reads as ahead-footnote-reads
 
+-- src/lib.rt:88:26
 ahead-footnote-requires : tie.Need-ahead-footnote-requires
 ahead-footnote-requires c κs = search needs
 
+-- src/lib.rt:88:21
 enum-known-n : tie.Need-enum-known-n
 enum-known-n c = search needs
 
+-- src/lib.rt:89:48
 enum-told : tie.Need-enum-told
 enum-told c = search needs
 
-bracket-requires : tie.Need-bracket-requires
-bracket-requires c κs = search needs
+-- src/lib.rt:89:9
+open-as-requires : tie.Need-open-as-requires
+open-as-requires c κs = search needs
 
-parse-container-requires : tie.Need-parse-container-requires
-parse-container-requires c κs = search needs
-
+-- src/lib.rt:89:9
 same-length : tie.Need-same-length
 same-length c = search needs
 
+-- src/lib.rt:89:9
 same-length-2 : tie.Need-same-length-2
 same-length-2 c = search needs
 
-same-length-3 : tie.Need-same-length-3
-same-length-3 c = search needs
-
+-- src/lib.rt:89:9
 returns : tie.Need-returns
 returns c rules =
-    let args = c .before .before .before .before .before .before .before .before .before .before .before .before .before .before .before .before .before .before .before .args in
-    let parse-container = c .before .before .before .before .before .before .parse-container in
-    let ahead-footnote = c .before .before .before .before .before .before .before .before .before .before .before .before .before .ahead-footnote in
-    let enum-told = c .before .before .before .before .before .before .before .before .before .before .before .enum-told in
-    let bracket = c .before .before .before .before .before .before .before .before .before .before .bracket in
-    noted-else (sheetOf rules (args .text .now) (args .labels .now)) (viewed (args .m) (args .line .now)) (here (args .h) (args .p)) (args .p) (args .queue .now) (args .openers .now) (args .labels .now) (parse-container .result) (parse-container .last .1 .1 .1 .1 .1 .1 .0) (parse-container .last .1 .1 .1 .1 .1 .1 .1 .0) (parse-container .last .1 .1 .1 .1 .1 .1 .1 .1 .0)
-    _ (sym (ahead-footnote .ensures) ∙ enum-told .given .1) (bracket .result) (bracket .ensures) (parse-container .ensures rules)
+    let args = c .before .before .before .before .before .before .before .before .before .before .before .before .before .before .before .args in
+    let open-as = c .before .before .before .before .open-as in
+    let ahead-footnote = c .before .before .before .before .before .before .before .before .before .ahead-footnote in
+    let enum-told = c .before .before .before .before .before .before .before .enum-told in
+    let pre = c .before .before .before .before .before .before .before .before .before .before .before .before .before .before .before .pre in
+    let x = sheetOf rules (args .text .now) (args .labels .now) in
+    let v = viewed (args .m) (args .line .now) in
+    noted-else x v (here (args .h) (args .p)) (args .p) (args .queue .now) (args .openers .now) (args .labels .now) (open-as .result) (open-as .last .1 .1 .1 .1 .1 .0) (open-as .last .1 .1 .1 .1 .1 .1 .0) (args .labels .now)
+    _ (sym (ahead-footnote .ensures) ∙ enum-told .given .1) bracket refl
+    (opening x v (args .h) (args .p) (args .queue .now) (args .openers .now) (args .labels .now) (pre .1 .labels) (open-as .result) (open-as .last .1 .1 .1 .1 .1 .0) (open-as .last .1 .1 .1 .1 .1 .1 .0) (open-as .ensures))
 
+-- src/lib.rt:91:5
 named-requires : tie.Need-named-requires
 named-requires c κs =
     let pre = c .before .before .before .before .before .before .before .before .before .before .pre in
@@ -56,9 +68,11 @@ named-requires c κs =
     let w = scan-within (args .line .now) (args .h .to) _ (footnote-some s _ e .within) (r .within) in
     (omega (arith, r .long), (omega (arith, w, r .small), omega (arith, w, r .room, r .long)))
 
-same-length-4 : tie.Need-same-length-4
-same-length-4 c = search needs
+-- src/lib.rt:72:1
+same-length-3 : tie.Need-same-length-3
+same-length-3 c = search needs
 
+-- src/lib.rt:72:1
 returns-2 : tie.Need-returns-2
 returns-2 c rules =
     let args = c .before .before .before .before .before .before .before .before .before .before .before .before .before .args in
@@ -76,12 +90,10 @@ noted-spec =
     ahead-footnote-requires
     enum-known-n
     enum-told
-    bracket-requires
-    parse-container-requires
+    open-as-requires
     same-length
     same-length-2
-    same-length-3
     returns
     named-requires
-    same-length-4
+    same-length-3
     returns-2)

@@ -1,156 +1,184 @@
--- `outside::parse_footnote_reference` meets its contract, by the laws of `Caret`.
-use mathlib.Core.Path.{subst, sym, ap, _∙_}
+-- `outside::parse_footnote_reference` meets its contract, by the laws of `Caret` and `Alone`.
+use mathlib.Core.Path.{refl, subst, sym, ap, _∙_}
 use native.Mathlib.Omega.{arith}
-use borrow.Author.Needs.{needs}
+use Rattle.lex.specs.declared.lex.Cursor.{Cursor}
+use Rattle.lex.specs.Lexer.{nextOf}
 use Rattle.links.specs.Linked.{sheetOf}
 use Rattle.containers.specs.Ready.{Shelving}
-use Rattle.rooms.specs.Standing.{moved as movedTo}
+use Rattle.rooms.specs.Standing.{viewed, moved as movedTo}
 use Rattle.rooms.specs.declared.Parser.{Parser}
 use Rattle.reading.specs.Machine.{rulesOf}
-use Rattle.reading.specs.Tokens.{is-caret as caret-role}
+use Rattle.reading.specs.Tokens.{bracket, is-caret as caret-role}
 use Rattle.outside.proofs.Caret.{peek-ready, peek-shelving, caret-none, caret-no, caret-yes, caret-within, caret-ready}
+use Rattle.outside.proofs.Alone.{opening}
+use borrow.Author.Needs.{needs}
 use Rattle.outside.proofs.parse_footnote_reference.Statement.{statement}
 use Rattle.outside.proofs.parse_footnote_reference.Tie as tie
+use Rattle.outside.proofs.parse_footnote_reference.Reads as reads
+use Rattle.outside.proofs.parse_footnote_reference.Lts as lts
+use Rattle.containers.proofs.open_as.Reads as open-as-reads
+use Rattle.lex.proofs.lex.Cursor.peek.Reads as peek-reads
+use Rattle.lex.proofs.lex.Cursor.skip.Reads as skip-reads
+use Rattle.outside.proofs.noted.Reads as noted-reads
+use Rattle.rooms.proofs.moved.Reads as moved-reads
+use Rattle.tables.proofs.is_caret.Reads as is-caret-reads
+use Rattle.tables.proofs.role_of.Reads as role-of-reads
 
+-- src/lib.rt:112:9
 peek-requires : tie.Need-peek-requires
 peek-requires c κs = search needs
 
+-- src/lib.rt:115:9
 moved-requires : tie.Need-moved-requires
 moved-requires c κs = search needs
 
+-- src/lib.rt:116:20
 enum-known-next : tie.Need-enum-known-next
 enum-known-next c = search needs
 
+-- src/lib.rt:117:48
 enum-told : tie.Need-enum-told
 enum-told c = search needs
 
-bracket-requires : tie.Need-bracket-requires
-bracket-requires c κs = search needs
+-- src/lib.rt:117:9
+open-as-requires : tie.Need-open-as-requires
+open-as-requires c κs =
+    let args = c .before .before .before .before .before .before .before .before .before .before .before .before .before .args in
+    let peek = c .before .before .before .before .before .before .peek in
+    let moved = c .before .before .before .before .moved in
+    let pre = c .before .before .before .before .before .before .before .before .before .before .before .before .before .pre in
+    peek-ready (sheetOf (rulesOf 0) (args .text .now) (args .labels .now)) (args .m) (args .line .now) (args .h) (args .p) (args .queue .now) (args .openers .now) (args .labels .now) (peek .result) (peek .ensures) (moved .result) (moved .ensures) (pre .0)
 
-parse-container-requires : tie.Need-parse-container-requires
-parse-container-requires c κs =
-    let args = c .before .before .before .before .before .before .before .before .before .before .before .before .before .before .before .args in
-    let peek = c .before .before .before .before .before .before .before .before .peek in
-    let moved = c .before .before .before .before .before .before .moved in
-    let pre = c .before .before .before .before .before .before .before .before .before .before .before .before .before .before .before .pre in (
-      peek-ready (sheetOf (rulesOf 0) (args .text .now) (args .labels .now)) (args .m) (args .line .now) (args .h) (args .p) (args .queue .now) (args .openers .now) (args .labels .now) (peek .result) (peek .ensures) (moved .result) (moved .ensures) (pre .0),
-      peek-shelving (sheetOf (rulesOf 0) (args .text .now) (args .labels .now)) (args .m) (args .line .now) (args .h) (args .p) (args .queue .now) (args .openers .now) (args .labels .now) (peek .result) (peek .ensures) (moved .result) (moved .ensures) (pre .1),
-    )
-
+-- src/lib.rt:117:9
 same-length : tie.Need-same-length
 same-length c = search needs
 
+-- src/lib.rt:117:9
 same-length-2 : tie.Need-same-length-2
 same-length-2 c = search needs
 
-same-length-3 : tie.Need-same-length-3
-same-length-3 c = search needs
-
+-- src/lib.rt:117:9
 returns : tie.Need-returns
 returns c rules =
-    let args = c .before .before .before .before .before .before .before .before .before .before .before .before .before .before .before .before .before .before .before .before .before .before .args in
-    let peek = c .before .before .before .before .before .before .before .before .before .before .before .before .before .before .before .peek in
-    let moved = c .before .before .before .before .before .before .before .before .before .before .before .before .before .moved in
-    let parse-container = c .before .before .before .before .before .before .parse-container in
-    let enum-told = c .before .before .before .before .before .before .before .before .before .before .before .enum-told in
-    let bracket = c .before .before .before .before .before .before .before .before .before .before .bracket in
-    caret-none (sheetOf rules (args .text .now) (args .labels .now)) (args .m) (args .line .now) (args .h) (args .p) (args .queue .now) (args .openers .now) (args .labels .now) (peek .result) (peek .ensures) (moved .result) (moved .ensures)
-    (parse-container .result) (parse-container .last .1 .1 .1 .1 .1 .1 .0) (parse-container .last .1 .1 .1 .1 .1 .1 .1 .0) (parse-container .last .1 .1 .1 .1 .1 .1 .1 .1 .0) (enum-told .given .1) (bracket .result) (bracket .ensures) (parse-container .ensures rules)
+    let args = c .before .before .before .before .before .before .before .before .before .before .before .before .before .before .before .before .before .before .args in
+    let peek = c .before .before .before .before .before .before .before .before .before .before .before .peek in
+    let moved = c .before .before .before .before .before .before .before .before .before .moved in
+    let pre = c .before .before .before .before .before .before .before .before .before .before .before .before .before .before .before .before .before .before .pre in
+    let open-as = c .before .before .before .before .open-as in
+    let enum-told = c .before .before .before .before .before .before .before .enum-told in
+    let x = sheetOf rules (args .text .now) (args .labels .now) in
+    let v = viewed (args .m) (args .line .now) in
+    let s = peek-shelving x (args .m) (args .line .now) (args .h) (args .p) (args .queue .now) (args .openers .now) (args .labels .now) (peek .result) (peek .ensures) (moved .result) (moved .ensures) (pre .1) in
+    caret-none x (args .m) (args .line .now) (args .h) (args .p) (args .queue .now) (args .openers .now) (args .labels .now) (peek .result) (peek .ensures) (moved .result) (moved .ensures)
+    (open-as .result) (open-as .last .1 .1 .1 .1 .1 .0) (open-as .last .1 .1 .1 .1 .1 .1 .0) (args .labels .now) (enum-told .given .1) bracket refl
+    (opening x v (args .h) (moved .result) (args .queue .now) (args .openers .now) (args .labels .now) (s .labels) (open-as .result) (open-as .last .1 .1 .1 .1 .1 .0) (open-as .last .1 .1 .1 .1 .1 .1 .0) (open-as .ensures))
 
+-- src/lib.rt:120:25
 role-of-requires : tie.Need-role-of-requires
 role-of-requires c κs = search needs
 
+-- src/lib.rt:120:8
 is-caret-requires : tie.Need-is-caret-requires
 is-caret-requires c κs = search needs
 
-next-requires : tie.Need-next-requires
-next-requires c κs = search needs
+-- src/lib.rt:121:13
+skip-requires : tie.Need-skip-requires
+skip-requires c κs = search needs
 
-add-t28 : tie.Need-add-t28
-add-t28 c =
-    let args = c .before .before .before .before .before .before .before .before .before .before .before .before .before .before .before .before .before .before .before .args in
-    let peek = c .before .before .before .before .before .before .before .before .before .before .before .before .peek in
-    let moved = c .before .before .before .before .before .before .before .before .before .before .moved in
-    let next = c .before .before .before .before .before .before .before .before .next in
-    let pre = c .before .before .before .before .before .before .before .before .before .before .before .before .before .before .before .before .before .before .before .pre in
+-- src/lib.rt:124:17
+add-t25 : tie.Need-add-t25
+add-t25 c =
+    let args = c .before .before .before .before .before .before .before .before .before .before .before .before .before .before .before .before .before .before .args in
+    let peek = c .before .before .before .before .before .before .before .before .before .before .before .peek in
+    let moved = c .before .before .before .before .before .before .before .before .before .moved in
+    let next = c .before .before .before .before .before .before .before .next in
+    let pre = c .before .before .before .before .before .before .before .before .before .before .before .before .before .before .before .before .before .before .pre in
     omega (arith, caret-within (sheetOf (rulesOf 0) (args .text .now) (args .labels .now)) (args .m) (args .line .now) (args .h) (args .p) (args .queue .now) (args .openers .now) (args .labels .now) (peek .result) (peek .ensures) (moved .result) (moved .ensures) _ (next .given .1) (pre .0), pre .0 .small)
 
+-- src/lib.rt:131:13
 moved-requires-2 : tie.Need-moved-requires-2
 moved-requires-2 c κs = search needs
 
+-- src/lib.rt:126:9
 noted-requires : tie.Need-noted-requires
 noted-requires c κs =
-    let pre = c .before .before .before .before .before .before .before .before .before .before .before .before .before .before .before .before .before .before .before .before .before .before .before .pre in
-    let args = c .before .before .before .before .before .before .before .before .before .before .before .before .before .before .before .before .before .before .before .before .before .before .before .args in
-    let peek = c .before .before .before .before .before .before .before .before .before .before .before .before .before .before .before .before .peek in
-    let moved = c .before .before .before .before .before .before .before .before .before .before .before .before .before .before .moved in
-    let next = c .before .before .before .before .before .before .before .before .before .before .before .before .next in
-    let next2 = c .before .before .before .before .before .before .before .next2 in
+    let pre = c .before .before .before .before .before .before .before .before .before .before .before .before .before .before .before .before .before .before .before .before .before .before .pre in
     let moved2 = c .before .before .before .moved2 in
-    let s = pre .1 in (
-      caret-ready (sheetOf (rulesOf 0) (args .text .now) (args .labels .now)) (args .m) (args .line .now) (args .h) (args .p) (args .queue .now) (args .openers .now) (args .labels .now) (peek .result) (peek .ensures) (moved .result) (moved .ensures) _ (next .given .1) (pre .0) (next2 .result) (next2 .ensures) (moved2 .result) (moved2 .ensures),
-      subst (λ (y : Parser). Shelving y (args .labels .now)) (sym (moved2 .ensures ∙ ap (λ (y : Parser). movedTo y (next2 .result .cursor)) (moved .ensures))) (record { labels = s .labels; room = s .room; links = s .links }),
+    let moved = c .before .before .before .before .before .before .before .before .before .before .before .before .before .moved in
+    let skip = c .before .before .before .before .before .before .skip in
+    let args = c .before .before .before .before .before .before .before .before .before .before .before .before .before .before .before .before .before .before .before .before .before .before .args in
+    let peek = c .before .before .before .before .before .before .before .before .before .before .before .before .before .before .before .peek in
+    let next = c .before .before .before .before .before .before .before .before .before .before .before .next in
+    let s = pre .1 in
+    let at = moved2 .ensures ∙ ap (λ (y : Cursor). movedTo (moved .result) y) (skip .ensures) in (
+      caret-ready (sheetOf (rulesOf 0) (args .text .now) (args .labels .now)) (args .m) (args .line .now) (args .h) (args .p) (args .queue .now) (args .openers .now) (args .labels .now) (peek .result) (peek .ensures) (moved .result) (moved .ensures) _ (next .given .1) (pre .0) (nextOf (args .line .now) (peek .result .cursor)) refl (moved2 .result) at,
+      subst (λ (y : Parser). Shelving y (args .labels .now)) (sym (moved2 .ensures ∙ ap (λ (y : Parser). movedTo y (skip .result)) (moved .ensures))) (record { labels = s .labels; room = s .room; links = s .links }),
     )
 
+-- src/lib.rt:126:9
+same-length-3 : tie.Need-same-length-3
+same-length-3 c = search needs
+
+-- src/lib.rt:126:9
 same-length-4 : tie.Need-same-length-4
 same-length-4 c = search needs
 
+-- src/lib.rt:126:9
 same-length-5 : tie.Need-same-length-5
 same-length-5 c = search needs
 
+-- src/lib.rt:126:9
+returns-2 : tie.Need-returns-2
+returns-2 c rules =
+    let moved2 = c .before .before .before .before .before .before .before .before .before .before .moved2 in
+    let moved = c .before .before .before .before .before .before .before .before .before .before .before .before .before .before .before .before .before .before .before .before .moved in
+    let skip = c .before .before .before .before .before .before .before .before .before .before .before .before .before .skip in
+    let args = c .before .before .before .before .before .before .before .before .before .before .before .before .before .before .before .before .before .before .before .before .before .before .before .before .before .before .before .before .before .args in
+    let peek = c .before .before .before .before .before .before .before .before .before .before .before .before .before .before .before .before .before .before .before .before .before .before .peek in
+    let noted = c .before .before .before .before .before .before .noted in
+    let next = c .before .before .before .before .before .before .before .before .before .before .before .before .before .before .before .before .before .before .next in
+    let is-caret = c .before .before .before .before .before .before .before .before .before .before .before .before .before .before .before .is-caret in
+    let role-of = c .before .before .before .before .before .before .before .before .before .before .before .before .before .before .before .before .role-of in
+    let if1 = c .before .before .before .before .before .before .before .before .before .before .before .before .before .before .if1 in
+    let at = moved2 .ensures ∙ ap (λ (y : Cursor). movedTo (moved .result) y) (skip .ensures) in
+    caret-yes (sheetOf rules (args .text .now) (args .labels .now)) (args .m) (args .line .now) (args .h) (args .p) (args .queue .now) (args .openers .now) (args .labels .now) (peek .result) (peek .ensures) (moved .result) (moved .ensures)
+    (noted .result) (noted .last .1 .1 .1 .1 .1 .0) (noted .last .1 .1 .1 .1 .1 .1 .0) (noted .last .1 .1 .1 .1 .1 .1 .1 .0) _ (next .given .1) (sym (is-caret .ensures ∙ ap caret-role (role-of .ensures)) ∙ if1 .taken) (nextOf (args .line .now) (peek .result .cursor)) refl (moved2 .result) at (noted .ensures rules)
+
+-- src/lib.rt:137:5
+open-as-requires-2 : tie.Need-open-as-requires-2
+open-as-requires-2 c κs =
+    let args = c .before .before .before .before .before .before .before .before .before .before .before .before .before .before .before .before .before .args in
+    let peek = c .before .before .before .before .before .before .before .before .before .before .peek in
+    let moved = c .before .before .before .before .before .before .before .before .moved in
+    let pre = c .before .before .before .before .before .before .before .before .before .before .before .before .before .before .before .before .before .pre in
+    peek-ready (sheetOf (rulesOf 0) (args .text .now) (args .labels .now)) (args .m) (args .line .now) (args .h) (args .p) (args .queue .now) (args .openers .now) (args .labels .now) (peek .result) (peek .ensures) (moved .result) (moved .ensures) (pre .0)
+
+-- src/lib.rt:95:1
 same-length-6 : tie.Need-same-length-6
 same-length-6 c = search needs
 
-returns-2 : tie.Need-returns-2
-returns-2 c rules =
-    let args = c .before .before .before .before .before .before .before .before .before .before .before .before .before .before .before .before .before .before .before .before .before .before .before .before .before .before .before .before .before .before .args in
-    let peek = c .before .before .before .before .before .before .before .before .before .before .before .before .before .before .before .before .before .before .before .before .before .before .before .peek in
-    let moved = c .before .before .before .before .before .before .before .before .before .before .before .before .before .before .before .before .before .before .before .before .before .moved in
-    let noted = c .before .before .before .before .before .before .noted in
-    let next = c .before .before .before .before .before .before .before .before .before .before .before .before .before .before .before .before .before .before .before .next in
-    let is-caret = c .before .before .before .before .before .before .before .before .before .before .before .before .before .before .before .before .is-caret in
-    let role-of = c .before .before .before .before .before .before .before .before .before .before .before .before .before .before .before .before .before .role-of in
-    let if1 = c .before .before .before .before .before .before .before .before .before .before .before .before .before .before .before .if1 in
-    let next2 = c .before .before .before .before .before .before .before .before .before .before .before .before .before .before .next2 in
-    let moved2 = c .before .before .before .before .before .before .before .before .before .before .moved2 in
-    caret-yes (sheetOf rules (args .text .now) (args .labels .now)) (args .m) (args .line .now) (args .h) (args .p) (args .queue .now) (args .openers .now) (args .labels .now) (peek .result) (peek .ensures) (moved .result) (moved .ensures)
-    (noted .result) (noted .last .1 .1 .1 .1 .1 .0) (noted .last .1 .1 .1 .1 .1 .1 .0) (noted .last .1 .1 .1 .1 .1 .1 .1 .0) _ (next .given .1) (sym (is-caret .ensures ∙ ap caret-role (role-of .ensures)) ∙ if1 .taken) (next2 .result) (next2 .ensures) (moved2 .result) (moved2 .ensures) (noted .ensures rules)
-
-bracket-requires-2 : tie.Need-bracket-requires-2
-bracket-requires-2 c κs = search needs
-
-parse-container-requires-2 : tie.Need-parse-container-requires-2
-parse-container-requires-2 c κs =
-    let args = c .before .before .before .before .before .before .before .before .before .before .before .before .before .before .before .before .before .before .before .args in
-    let peek = c .before .before .before .before .before .before .before .before .before .before .before .before .peek in
-    let moved = c .before .before .before .before .before .before .before .before .before .before .moved in
-    let pre = c .before .before .before .before .before .before .before .before .before .before .before .before .before .before .before .before .before .before .before .pre in (
-      peek-ready (sheetOf (rulesOf 0) (args .text .now) (args .labels .now)) (args .m) (args .line .now) (args .h) (args .p) (args .queue .now) (args .openers .now) (args .labels .now) (peek .result) (peek .ensures) (moved .result) (moved .ensures) (pre .0),
-      peek-shelving (sheetOf (rulesOf 0) (args .text .now) (args .labels .now)) (args .m) (args .line .now) (args .h) (args .p) (args .queue .now) (args .openers .now) (args .labels .now) (peek .result) (peek .ensures) (moved .result) (moved .ensures) (pre .1),
-    )
-
+-- src/lib.rt:95:1
 same-length-7 : tie.Need-same-length-7
 same-length-7 c = search needs
 
-same-length-8 : tie.Need-same-length-8
-same-length-8 c = search needs
-
-same-length-9 : tie.Need-same-length-9
-same-length-9 c = search needs
-
+-- src/lib.rt:95:1
 returns-3 : tie.Need-returns-3
 returns-3 c rules =
-    let args = c .before .before .before .before .before .before .before .before .before .before .before .before .before .before .before .before .before .before .before .before .before .before .before .before .before .before .args in
-    let peek = c .before .before .before .before .before .before .before .before .before .before .before .before .before .before .before .before .before .before .before .peek in
-    let moved = c .before .before .before .before .before .before .before .before .before .before .before .before .before .before .before .before .before .moved in
-    let parse-container2 = c .before .before .before .before .before .before .parse-container2 in
-    let next = c .before .before .before .before .before .before .before .before .before .before .before .before .before .before .before .next in
-    let is-caret = c .before .before .before .before .before .before .before .before .before .before .before .before .is-caret in
-    let role-of = c .before .before .before .before .before .before .before .before .before .before .before .before .before .role-of in
-    let if1 = c .before .before .before .before .before .before .before .before .before .before .before .if1 in
-    let bracket2 = c .before .before .before .before .before .before .before .before .before .before .bracket2 in
-    caret-no (sheetOf rules (args .text .now) (args .labels .now)) (args .m) (args .line .now) (args .h) (args .p) (args .queue .now) (args .openers .now) (args .labels .now) (peek .result) (peek .ensures) (moved .result) (moved .ensures)
-    (parse-container2 .result) (parse-container2 .last .1 .1 .1 .1 .1 .1 .0) (parse-container2 .last .1 .1 .1 .1 .1 .1 .1 .0) (parse-container2 .last .1 .1 .1 .1 .1 .1 .1 .1 .0) _ (next .given .1) (sym (is-caret .ensures ∙ ap caret-role (role-of .ensures)) ∙ if1 .left) (bracket2 .result) (bracket2 .ensures) (parse-container2 .ensures rules)
+    let args = c .before .before .before .before .before .before .before .before .before .before .before .before .before .before .before .before .before .before .before .before .before .before .args in
+    let peek = c .before .before .before .before .before .before .before .before .before .before .before .before .before .before .before .peek in
+    let moved = c .before .before .before .before .before .before .before .before .before .before .before .before .before .moved in
+    let pre = c .before .before .before .before .before .before .before .before .before .before .before .before .before .before .before .before .before .before .before .before .before .before .pre in
+    let open-as2 = c .before .before .before .before .open-as2 in
+    let next = c .before .before .before .before .before .before .before .before .before .before .before .next in
+    let is-caret = c .before .before .before .before .before .before .before .before .is-caret in
+    let role-of = c .before .before .before .before .before .before .before .before .before .role-of in
+    let if1 = c .before .before .before .before .before .before .before .if1 in
+    let x = sheetOf rules (args .text .now) (args .labels .now) in
+    let v = viewed (args .m) (args .line .now) in
+    let s = peek-shelving x (args .m) (args .line .now) (args .h) (args .p) (args .queue .now) (args .openers .now) (args .labels .now) (peek .result) (peek .ensures) (moved .result) (moved .ensures) (pre .1) in
+    caret-no x (args .m) (args .line .now) (args .h) (args .p) (args .queue .now) (args .openers .now) (args .labels .now) (peek .result) (peek .ensures) (moved .result) (moved .ensures)
+    (open-as2 .result) (open-as2 .last .1 .1 .1 .1 .1 .0) (open-as2 .last .1 .1 .1 .1 .1 .1 .0) (args .labels .now) _ (next .given .1) (sym (is-caret .ensures ∙ ap caret-role (role-of .ensures)) ∙ if1 .left) bracket refl
+    (opening x v (args .h) (moved .result) (args .queue .now) (args .openers .now) (args .labels .now) (s .labels) (open-as2 .result) (open-as2 .last .1 .1 .1 .1 .1 .0) (open-as2 .last .1 .1 .1 .1 .1 .1 .0) (open-as2 .ensures))
 
 pub parse-footnote-reference-spec : {M : Type 1} → statement M
 parse-footnote-reference-spec =
@@ -160,25 +188,21 @@ parse-footnote-reference-spec =
     moved-requires
     enum-known-next
     enum-told
-    bracket-requires
-    parse-container-requires
+    open-as-requires
     same-length
     same-length-2
-    same-length-3
     returns
     role-of-requires
     is-caret-requires
-    next-requires
-    add-t28
+    skip-requires
+    add-t25
     moved-requires-2
     noted-requires
+    same-length-3
     same-length-4
     same-length-5
-    same-length-6
     returns-2
-    bracket-requires-2
-    parse-container-requires-2
+    open-as-requires-2
+    same-length-6
     same-length-7
-    same-length-8
-    same-length-9
     returns-3)

@@ -15,8 +15,8 @@ start-of-requires c κs = search needs
 enum-told : tie.Need-enum-told
 enum-told c = search needs
 
-eat-while-requires : tie.Need-eat-while-requires
-eat-while-requires c κs = search needs
+eat-plain-requires : tie.Need-eat-plain-requires
+eat-plain-requires c κs = search needs
 
 enum-known-kind : tie.Need-enum-known-kind
 enum-known-kind c = search needs
@@ -62,7 +62,7 @@ eat-seq-requires c κs = search needs
 
 returns : tie.Need-returns
 returns c =
-    begun-text (c .before .before .before .before .before .before .args .s .now) _ (c .eat-while .ensures)
+    begun-text (c .before .before .before .before .before .before .args .s .now) _ (c .eat-plain .ensures)
     ∙ begun-by (c .before .before .before .before .before .before .args .s .now) _ _ (c .before .before .before .start-of .ensures)
     (c .before .enum-told .given .1)
 
@@ -115,7 +115,7 @@ begun-spec =
     shared-slice-read-start-of
     start-of-requires
     enum-told
-    eat-while-requires
+    eat-plain-requires
     enum-known-kind
     enum-known-kind-2
     maybe-eat-close-brace-requires

@@ -1,0 +1,224 @@
+//! Measures the reader beside the Rust (`inline.rs`, `lex.rs` and `attr.rs` of the documents, as they stand) and beside a plain clear of the
+//! same rooms: medians of interleaved rounds, in nanoseconds for a byte and as ratios to the Rust. Status 1 if a bar is missed.
+
+#[allow(dead_code, unused_imports)]
+mod attr {
+    include!(env!("ATTR_RS"));
+}
+#[allow(dead_code)]
+mod inline {
+    include!(env!("INLINE_RS"));
+}
+#[allow(dead_code)]
+mod lex {
+    include!(env!("LEX_RS"));
+}
+type CowStr<'s> = std::borrow::Cow<'s, str>;
+
+mod cases;
+#[allow(dead_code)]
+#[path = "../interface/mivurakol.rs"]
+mod mivurakol;
+
+use cases::{Case, Sheet};
+use std::hint::black_box;
+
+/// Rounds, each of which measures all three; and the nanoseconds that one measurement takes at least.
+const ROUNDS: usize = 101;
+const LEAST: f64 = 2e6;
+
+/// Rooms for the largest sheet of a case.
+struct Rooms {
+    events: Vec<u32>,
+    queue: Vec<u32>,
+    openers: Vec<u32>,
+    labels: Vec<u8>,
+}
+
+impl Rooms {
+    fn new(bytes: usize) -> Self {
+        Rooms { events: vec![0; 7 * (bytes + 1)], queue: vec![0; 8 * (2 * bytes + 1)], openers: vec![0; 4 * bytes], labels: vec![0; 4 * bytes] }
+    }
+
+    /// Of these, what a sheet of so many bytes needs, and no more.
+    fn lent(&mut self, bytes: usize, labels: usize) -> mivurakol::Rooms<'_> {
+        mivurakol::Rooms {
+            events: &mut self.events[..7 * (bytes + 1)],
+            queue: &mut self.queue[..8 * (2 * bytes + 1)],
+            openers: &mut self.openers[..4 * bytes],
+            labels: &mut self.labels[..labels],
+        }
+    }
+}
+
+fn parser<'t>(text: &'t str, sheet: &Sheet) -> inline::Parser<'t> {
+    let mut parser = inline::Parser::new(text);
+    let last = sheet.starts.len() - 1;
+    for i in 0..=last {
+        parser.feed_line(sheet.starts[i]..sheet.ends[i], i == last);
+    }
+    parser
+}
+
+fn theirs(case: &Case) {
+    for sheet in &case.sheets {
+        for event in parser(&case.text, sheet) {
+            black_box(&event);
+        }
+    }
+}
+
+fn read<'r>(case: &Case, sheet: &Sheet, lent: &'r mut mivurakol::Rooms) -> (mivurakol::Answer, &'r [[u32; 7]]) {
+    let answer = mivurakol::read(case.text.as_bytes(), &sheet.starts, &sheet.ends, 0, lent);
+    (answer, &lent.events.as_chunks().0[..answer.events as usize])
+}
+
+fn ours(case: &Case, rooms: &mut Rooms) {
+    for sheet in &case.sheets {
+        for event in read(case, sheet, &mut rooms.lent(sheet.bytes, sheet.labels)).1 {
+            black_box(event);
+        }
+    }
+}
+
+fn clear(case: &Case, rooms: &mut Rooms) {
+    for sheet in &case.sheets {
+        let lent = rooms.lent(sheet.bytes, sheet.labels);
+        for room in [lent.events, lent.queue, lent.openers] {
+            room.fill(0);
+            black_box(room);
+        }
+        lent.labels.fill(0);
+        black_box(lent.labels);
+    }
+}
+
+/// The label bytes that each sheet needs. Ours and the Rust's events must have the same spans.
+fn label_bytes(case: &Case, rooms: &mut Rooms) -> Vec<usize> {
+    let of = |sheet: &Sheet| {
+        let room = rooms.labels.len();
+        let mut lent = rooms.lent(sheet.bytes, room);
+        let (answer, events) = read(case, sheet, &mut lent);
+        assert_eq!(answer.code, 0, "{}: refused", case.name);
+        let spans = events.iter().map(|e| e[1] as usize..e[2] as usize);
+        assert!(spans.eq(parser(&case.text, sheet).map(|e| e.span)), "{}: the events differ", case.name);
+        answer.labels as usize
+    };
+    case.sheets.iter().map(of).collect()
+}
+
+#[repr(C)]
+struct Timespec {
+    seconds: i64,
+    nanoseconds: i64,
+}
+
+extern "C" {
+    fn clock_gettime(clock: i32, time: *mut Timespec) -> i32;
+}
+
+/// The nanoseconds that this thread was run so far: what else the machine does at the same time is not counted.
+fn now() -> f64 {
+    const CLOCK_THREAD_CPUTIME_ID: i32 = 3;
+    let mut time = Timespec { seconds: 0, nanoseconds: 0 };
+    // SAFETY: `time` is C's `struct timespec`, and is written to.
+    let status = unsafe { clock_gettime(CLOCK_THREAD_CPUTIME_ID, &mut time) };
+    assert_eq!(status, 0, "no clock");
+    time.seconds as f64 * 1e9 + time.nanoseconds as f64
+}
+
+/// The nanoseconds of a pass.
+fn timed(passes: usize, run: &mut dyn FnMut()) -> f64 {
+    let begun = now();
+    for _ in 0..passes {
+        run();
+    }
+    (now() - begun) / passes as f64
+}
+
+/// So many passes that they take the least time, after as many for warmth.
+fn passes(run: &mut dyn FnMut()) -> usize {
+    let mut n = 1;
+    while timed(n, run) * (n as f64) < LEAST {
+        n *= 2;
+    }
+    n
+}
+
+/// The value with a share of all below it.
+fn quantile(values: &[f64], share: f64) -> f64 {
+    let mut sorted = values.to_vec();
+    sorted.sort_by(f64::total_cmp);
+    sorted[(share * (sorted.len() - 1) as f64).round() as usize]
+}
+
+/// What a bar allows ours, by what the Rust and the clearing take.
+type Bar = (&'static str, fn(f64, f64) -> f64);
+
+const HALF: Bar = ("half of the Rust", |rust, _| rust / 2.0);
+const WITH_CLEARING: Bar = ("the Rust and the clearing", |rust, clear| rust + clear);
+const NO_SLOWER: Bar = ("the Rust", |rust, _| rust);
+
+/// The times of a pass of the Rust, of ours and of the clear, in each round.
+fn times_of(case: &Case, rooms: &mut Rooms) -> [Vec<f64>; 3] {
+    let counts = [passes(&mut || theirs(case)), passes(&mut || ours(case, rooms)), passes(&mut || clear(case, rooms))];
+    let mut times = [const { Vec::new() }; 3];
+    for round in 0..ROUNDS {
+        for turn in 0..3 {
+            let which = (round + turn) % 3;
+            times[which].push(match which {
+                0 => timed(counts[0], &mut || theirs(case)),
+                1 => timed(counts[1], &mut || ours(case, rooms)),
+                _ => timed(counts[2], &mut || clear(case, rooms)),
+            });
+        }
+    }
+    times
+}
+
+/// Measures a case and prints its line. Whether it is within its bar.
+fn measure(mut case: Case, bar: Bar) -> bool {
+    let mut rooms = Rooms::new(case.sheets.iter().map(|sheet| sheet.bytes).max().unwrap_or(0));
+    let labels = label_bytes(&case, &mut rooms);
+    case.sheets.iter_mut().zip(labels).for_each(|(sheet, bytes)| sheet.labels = bytes);
+    let times = times_of(&case, &mut rooms);
+    let ratios: Vec<f64> = times[1].iter().zip(&times[0]).map(|(ours, rust)| ours / rust).collect();
+    let [rust, ours, clear] = times.map(|t| quantile(&t, 0.5));
+    let bytes: usize = case.sheets.iter().map(|sheet| sheet.bytes).sum();
+    let each = |t: f64| t / bytes as f64;
+    let met = ours <= bar.1(rust, clear);
+    println!(
+        "{:20} {:>6} {:>9.2} {:>8.2} {:>9.2} {:>10.2}  {:.2}-{:.2} {:>11.2} {:>8.0}%   {}: {}",
+        case.name,
+        bytes,
+        each(rust),
+        each(ours),
+        each(clear),
+        ours / rust,
+        quantile(&ratios, 0.25),
+        quantile(&ratios, 0.75),
+        (ours - clear) / rust,
+        100.0 * clear / ours,
+        bar.0,
+        if met { "met" } else { "MISSED" },
+    );
+    met
+}
+
+fn main() {
+    println!("Medians of {ROUNDS} rounds: nanoseconds for a byte, and ratios to the Rust.");
+    println!("case                  bytes      Rust     ours  clearing  ours/Rust  quartiles  without it  clearing   ours at most");
+    let mut met = true;
+    for (case, bar) in [
+        (cases::cells(), HALF),
+        (cases::marked_up(), WITH_CLEARING),
+        (cases::prose(), WITH_CLEARING),
+        (cases::openers(), NO_SLOWER),
+        (cases::searches(), NO_SLOWER),
+    ] {
+        met &= measure(case, bar);
+    }
+    if !met {
+        std::process::exit(1);
+    }
+}
