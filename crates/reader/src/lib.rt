@@ -328,14 +328,16 @@ fn accept(
         (events .entry)) (now (queue .entry)) (now (openers .entry)) (now (labels .entry))) ⌝ }
 {
     let records = count * 7;
+    let handed = count as u32;
+    let used = bytes as u32;
     clear_behind(events, records);
     clear_work(queue, openers);
     clear_bytes_behind(labels, bytes);
     Answer {
         code: 0,
         place: 0,
-        events: count as u32,
-        labels: bytes as u32,
+        events: handed,
+        labels: used,
     }
 }
 

@@ -6,7 +6,7 @@ ghost use Rattle.show.specs.Lines.{Split};
 use reading::Answer;
 
 // The lines of a text, each with its newline: from the front of two rooms. How many there are.
-pub fn split_lines(text: &[u8], starts: &mut [usize], ends: &mut [usize]) -> usize
+fn split_lines(text: &[u8], starts: &mut [usize], ends: &mut [usize]) -> usize
     requires { ⌜ (length (now text) ≤ length (now starts)) × (length (now text) ≤ length (now ends)) ⌝ }
     ensures { λ r. ⌜ Split (now (text .entry)) (now (starts .entry)) (now (ends .entry)) (now (starts .exit)) (now (ends .exit)) r ⌝ }
 {

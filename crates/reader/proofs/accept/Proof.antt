@@ -7,6 +7,12 @@ use Rattle.reader.proofs.accept.Tie as tie
 mul-records : tie.Need-mul-records
 mul-records c = search needs
 
+cast-handed : tie.Need-cast-handed
+cast-handed c = search needs
+
+cast-used : tie.Need-cast-used
+cast-used c = search needs
+
 clear-behind-requires : tie.Need-clear-behind-requires
 clear-behind-requires c κs = search needs
 
@@ -15,12 +21,6 @@ clear-work-requires c κs = search needs
 
 clear-bytes-behind-requires : tie.Need-clear-bytes-behind-requires
 clear-bytes-behind-requires c κs = search needs
-
-cast-t17 : tie.Need-cast-t17
-cast-t17 c = search needs
-
-cast-t18 : tie.Need-cast-t18
-cast-t18 c = search needs
 
 same-length : tie.Need-same-length
 same-length c = search needs
@@ -47,11 +47,11 @@ accept-spec =
     tie.close
     (tie.spec
     mul-records
+    cast-handed
+    cast-used
     clear-behind-requires
     clear-work-requires
     clear-bytes-behind-requires
-    cast-t17
-    cast-t18
     same-length
     same-length-2
     same-length-3
