@@ -1,4 +1,4 @@
--- Answers of the Rust (`compare/plain rows`): sheets of one line and of many, touching or with gaps, in both readings.
+-- Answers of the Rust (`compare/run rows`): sheets of one line and of many, touching or with gaps, in both readings.
 use mathlib.Core.List.{List, [], _∷_}
 use Rattle.reading.specs.Events.{event, homed, in-text}
 use Rattle.reading.proofs.Sheets.{Row, span, at-home, given, refused-at}
