@@ -4,7 +4,7 @@ use mathlib.Core.Path.{_≡_, refl, ap}
 use mathlib.Core.List.{List, [], _∷_}
 use native.Mathlib.Omega.{arith}
 use lib.ListN.{length, getD, drop}
-use Rattle.inline.specs.Lines.{unpaired, lines-of}
+use Rattle.inline.specs.Lines.{unpaired, lines-of, none}
 
 -- two lists of one length
 pub lines-length : (ss es : List ℕ) → length ss ≡ length es → length (lines-of ss es) ≡ length ss
@@ -39,7 +39,7 @@ lines-many (a ∷ ss) (b ∷ es) =
 
 -- the one at i
 pub lines-at : (ss es : List ℕ) (i : ℕ) → i < length ss → i < length es
-    → drop i (lines-of ss es) ≡ record { start = getD ss i 0; end = getD es i 0 } ∷ drop (suc i) (lines-of ss es)
+    → record { start = getD ss i 0; end = getD es i 0 } ≡ getD (lines-of ss es) i none
 unfolding lines-of
 lines-at [] es i h l = absurd (omega arith)
 lines-at (a ∷ ss) [] i h l = absurd (omega arith)

@@ -6,6 +6,7 @@ use mathlib.Core.List.{List, [], _∷_}
 use native.Mathlib.Numerals.{add-one}
 use native.Mathlib.Omega.{arith}
 use lib.ListN.{length, getD, drop, replicate, drop-of-length-le}
+use lib.Seq.{drop-cons}
 use Rattle.reading.specs.declared.Line.{Line}
 use Rattle.reading.specs.declared.Refused.{Refused}
 use Rattle.reading.specs.declared.Refused.the-variants as refused
@@ -19,11 +20,10 @@ use Rattle.reading.proofs.Theorems.{Any, rising, free}
 use Rattle.rooms.specs.declared.Parser.{Parser}
 use Rattle.rooms.specs.declared.Margin.{Margin}
 use Rattle.rooms.specs.Records.{eventAt}
-use Rattle.rooms.specs.Standing.{stands, staying, Changed}
+use Rattle.rooms.specs.Standing.{stands, viewed, staying, Changed}
 use Rattle.rooms.proofs.Rows.{rows-length}
-use Rattle.inline.specs.Asks.{Lined, StandsFor, Sheeted, Closing, ending}
-use Rattle.inline.specs.Lines.{lines-of}
-use Rattle.inline.proofs.Pairs.{lines-length, lines-at}
+use Rattle.inline.specs.Asks.{Lined, LineFed, StandsFor, Sheeted, Closing, ending}
+use Rattle.inline.specs.Lines.{none}
 use Rattle.inline.proofs.Turning.{good-opened}
 
 -- lines one behind another are no longer than the text
@@ -32,18 +32,30 @@ unfolding Rising total
 rising-total text a [] h r = omega arith
 rising-total text a (l ∷ ls) h r = omega (arith, r .0, r .1, rising-total text (l .end) ls (r .2) (r .3))
 
+-- a line by its margin
+module _ (text : List ℕ) (line : Line) (reading : ℕ) (p : Parser) (q o l : List ℕ) (m : Margin)
+    (is : m ≡ record { base = line .start; before = byte-before text (line .start) }) where
+  pub fed-lined : LineFed text line reading p q o l → Lined text (viewOf text line .bytes) m reading p q o l
+  fed-lined w = subst (λ (y : Margin). Lined text (viewOf text line .bytes) y reading p q o l) (sym is) (w .lined)
+
+  pub fed-stands : (r : Parser) (q′ o′ l′ : List ℕ)
+      → StandsFor r q′ o′ l′ (line-of (sheet text reading (length l)) (viewed m (viewOf text line .bytes)) (stands p q o l))
+      → StandsFor r q′ o′ l′ (line-of (sheet text reading (length l)) (viewOf text line) (stands p q o l))
+  fed-stands r q′ o′ l′ =
+      subst (λ (y : Margin). StandsFor r q′ o′ l′ (line-of (sheet text reading (length l)) (viewed y (viewOf text line .bytes)) (stands p q o l))) is
+
 -- the loop's invariant, behind i lines
-pub record Head (text starts ends : List ℕ) (reading : ℕ) (q₀ o₀ l₀ q o l : List ℕ) (p : Parser) (end i : ℕ) : Type 0 where
+pub record Head (text : List ℕ) (ls : List Line) (reading : ℕ) (q₀ o₀ l₀ q o l : List ℕ) (p : Parser) (end i : ℕ) : Type 0 where
   pub at : ℕ
   pub count : ℕ
-  pub inside : i ≤ length starts
-  pub rest : Rising text at (drop i (lines-of starts ends))
+  pub inside : i ≤ length ls
+  pub rest : Rising text at (drop i ls)
   pub stood : feeding.Stood Any text (sheet text reading (length l₀)) at count (stands p q o l)
-  pub left : count + total (drop i (lines-of starts ends)) ≡ total (lines-of starts ends)
-  pub same : lines (sheet text reading (length l₀)) (views text (drop i (lines-of starts ends))) (stands p q o l)
-      ≡ lines (sheet text reading (length l₀)) (views text (lines-of starts ends)) start
+  pub left : count + total (drop i ls) ≡ total ls
+  pub same : lines (sheet text reading (length l₀)) (views text (drop i ls)) (stands p q o l)
+      ≡ lines (sheet text reading (length l₀)) (views text ls) start
   pub out : Outside (stands p q o l)
-  pub stops : end-of (drop i (lines-of starts ends)) end ≡ end-of (lines-of starts ends) 0
+  pub stops : end-of (drop i ls) end ≡ end-of ls 0
   pub low : end ≤ length text
   pub labels : p .labels ≤ length l
   pub links : p .links .0 ≤ count
@@ -51,10 +63,7 @@ pub record Head (text starts ends : List ℕ) (reading : ℕ) (q₀ o₀ l₀ q 
   pub long-o : length o ≡ length o₀
   pub long-l : length l ≡ length l₀
 
-module _ (text starts ends : List ℕ) (reading : ℕ) (q₀ o₀ l₀ : List ℕ) (w : Sheeted text starts ends q₀ o₀ l₀) where
-  abbrev ls : List Line
-  ls = lines-of starts ends
-
+module _ (text : List ℕ) (ls : List Line) (reading : ℕ) (q₀ o₀ l₀ : List ℕ) (w : Sheeted text ls q₀ o₀ l₀) where
   abbrev x : Sheet
   x = sheet text reading (length l₀)
 
@@ -64,7 +73,7 @@ module _ (text starts ends : List ℕ) (reading : ℕ) (q₀ o₀ l₀ : List �
   few : total ls ≤ 1048576
   few = omega (arith, rising-total text 0 ls (omega arith) all-rising, w .small)
 
-  pub head-first : (p : Parser) → ((q o l : List ℕ) → stands p q o l ≡ start) → p .labels ≡ 0 → Head text starts ends reading q₀ o₀ l₀ q₀ o₀ l₀ p 0 0
+  pub head-first : (p : Parser) → ((q o l : List ℕ) → stands p q o l ≡ start) → p .labels ≡ 0 → Head text ls reading q₀ o₀ l₀ q₀ o₀ l₀ p 0 0
   head-first p is z =
       let e = is q₀ o₀ l₀ in
       record {
@@ -85,26 +94,23 @@ module _ (text starts ends : List ℕ) (reading : ℕ) (q₀ o₀ l₀ : List �
         long-l = refl;
       }
 
-  module _ (q o l : List ℕ) (p : Parser) (end i : ℕ) (h : Head text starts ends reading q₀ o₀ l₀ q o l p end i) where
+  module _ (q o l : List ℕ) (p : Parser) (end i : ℕ) (h : Head text ls reading q₀ o₀ l₀ q o l p end i) where
     -- a line is left
-    module _ (some : i < length starts) where
-      abbrev here : Line
-      here = record { start = getD starts i 0; end = getD ends i 0 }
-
+    module _ (some : i < length ls) (here : Line) (is : here ≡ getD ls i none) where
       abbrev more : List Line
       more = drop (suc i) ls
 
       cons : drop i ls ≡ here ∷ more
-      cons = lines-at starts ends i some (omega (arith, w .paired, some))
+      cons = drop-cons ls i none some ∙ ap (λ (l : Line). l ∷ more) (sym is)
 
       up : Rising text (h .at) (here ∷ more)
       up = subst (λ (ms : List Line). Rising text (h .at) ms) cons (h .rest)
 
-      pub line-ordered : here .start ≤ here .end
+      line-ordered : here .start ≤ here .end
       unfolding Rising
       line-ordered = up .1
 
-      pub line-within : here .end ≤ length text
+      line-within : here .end ≤ length text
       unfolding Rising
       line-within = up .2
 
@@ -120,32 +126,34 @@ module _ (text starts ends : List ℕ) (reading : ℕ) (q₀ o₀ l₀ : List �
       totals = subst (λ (ms : List Line). h .count + total ms ≡ total ls) cons (h .left)
 
       -- what the line asks
-      pub head-lined : (m : Margin) → m ≡ record { base = here .start; before = byte-before text (here .start) }
-          → Lined text (viewOf text here .bytes) m reading p q o l
+      pub head-fed : LineFed text here reading p q o l
       unfolding Apart
-      head-lined m is =
-          subst (λ (y : Margin). Lined text (viewOf text here .bytes) y reading p q o l) (sym is)
+      head-fed =
           record {
-            at = h .at;
-            count = h .count;
-            stood = subst (λ (n : ℕ). feeding.Stood Any text (sheet text reading n) (h .at) (h .count) (stands p q o l)) (sym (h .long-l)) (h .stood);
-            gap = free x (h .at) (here ∷ more) up .0;
-            shows = view-shows text here line-ordered line-within;
-            small = omega (arith, long, line-ordered, line-within, w .small);
-            few = omega (arith, long, totals, few);
-            room = omega (arith, long, totals, w .room, h .long-q);
-            stack = omega (arith, long, totals, w .stack, h .long-o);
-            labels = h .labels;
-            label-room = omega (arith, w .label-room, h .long-l);
-            links = h .links;
+            ordered = line-ordered;
+            within = line-within;
+            lined =
+                record {
+                  at = h .at;
+                  count = h .count;
+                  stood = subst (λ (n : ℕ). feeding.Stood Any text (sheet text reading n) (h .at) (h .count) (stands p q o l)) (sym (h .long-l)) (h .stood);
+                  gap = free x (h .at) (here ∷ more) up .0;
+                  shows = view-shows text here line-ordered line-within;
+                  small = omega (arith, long, line-ordered, line-within, w .small);
+                  few = omega (arith, long, totals, few);
+                  room = omega (arith, long, totals, w .room, h .long-q);
+                  stack = omega (arith, long, totals, w .stack, h .long-o);
+                  labels = h .labels;
+                  label-room = omega (arith, w .label-room, h .long-l);
+                  links = h .links;
+                };
           }
 
       -- what it gives
-      pub head-next : (m : Margin) → m ≡ record { base = here .start; before = byte-before text (here .start) } → (r : Parser) (q′ o′ l′ : List ℕ)
-          → StandsFor r q′ o′ l′ (line-of (sheet text reading (length l)) (record { base = m .base; before = m .before; bytes = viewOf text here .bytes }) (stands p q o l))
-          → length q′ ≡ length q → length o′ ≡ length o → length l′ ≡ length l → Head text starts ends reading q₀ o₀ l₀ q′ o′ l′ r (here .end) (i + 1)
+      pub head-next : (r : Parser) (q′ o′ l′ : List ℕ) → StandsFor r q′ o′ l′ (line-of (sheet text reading (length l)) (viewOf text here) (stands p q o l))
+          → length q′ ≡ length q → length o′ ≡ length o → length l′ ≡ length l → Head text ls reading q₀ o₀ l₀ q′ o′ l′ r (here .end) (i + 1)
       unfolding Apart lines end-of
-      head-next m is r q′ o′ l′ st lq lo ll =
+      head-next r q′ o′ l′ st lq lo ll =
           rw (add-one i)
           record {
             at = here .end;
@@ -171,14 +179,12 @@ module _ (text starts ends : List ℕ) (reading : ℕ) (q₀ o₀ l₀ : List �
           }
         where
           same : stands r q′ o′ l′ ≡ line-of x (viewOf text here) (stands p q o l)
-          same =
-              subst (λ (n : ℕ). stands r q′ o′ l′ ≡ line-of (sheet text reading n) (viewOf text here) (stands p q o l)) (h .long-l)
-              (subst (λ (y : Margin). stands r q′ o′ l′ ≡ line-of (sheet text reading (length l)) (record { base = y .base; before = y .before; bytes = viewOf text here .bytes }) (stands p q o l)) is (st .same))
+          same = subst (λ (n : ℕ). stands r q′ o′ l′ ≡ line-of (sheet text reading n) (viewOf text here) (stands p q o l)) (h .long-l) (st .same)
 
     -- behind the last line
-    module _ (none : length starts ≤ i) where
+    module _ (past : length ls ≤ i) where
       ended : drop i ls ≡ []
-      ended = let n : length ls ≤ i = omega (arith, none, lines-length starts ends (w .paired)) in drop-of-length-le ls n
+      ended = drop-of-length-le ls past
 
       same-all : stands p q o l ≡ lines x (views text ls) start
       unfolding lines
@@ -210,11 +216,10 @@ module _ (text starts ends : List ℕ) (reading : ℕ) (q₀ o₀ l₀ : List �
           }
 
 -- what `parse` asks can be met: `*a*`, in rooms of the stated sizes
-pub asked-row : Sheeted (code "*" ∷ code "a" ∷ code "*" ∷ []) (0 ∷ []) (3 ∷ []) (replicate 56 0) (replicate 12 0) []
-unfolding lines-of total first-outside first-early
+pub asked-row : Sheeted (code "*" ∷ code "a" ∷ code "*" ∷ []) (record { start = 0; end = 3 } ∷ []) (replicate 56 0) (replicate 12 0) []
+unfolding total first-outside first-early
 asked-row =
     record {
-      paired = refl;
       small = omega arith;
       listed = omega arith;
       fed = record { inside = refl; apart = refl };

@@ -9,7 +9,8 @@ use Rattle.lex.proofs.Laws.{Sound}
 use Rattle.reading.specs.declared.Inside.the-variants as inside
 use Rattle.reading.specs.declared.Refused.{Refused}
 use Rattle.reading.specs.declared.Refused.the-variants as refused
-use Rattle.reading.specs.Machine.{State}
+use Rattle.reading.specs.declared.Line.{Line}
+use Rattle.reading.specs.Machine.{State, byte-before, viewOf}
 use Rattle.reading.specs.Verbatim.{ended-at}
 use Rattle.reading.specs.Reading.{sheet}
 use Rattle.reading.specs.Naming.{Named}
@@ -24,7 +25,6 @@ use Rattle.rooms.specs.Records.{opens}
 use Rattle.rooms.specs.Standing.{stands, viewed}
 use Rattle.verbatim.specs.Opened.{OpenedBy}
 use Rattle.outside.specs.Outside.{Ended}
-use Rattle.inline.specs.Lines.{lines-of}
 
 -- at a token: a sound cursor, and rooms for what the rest of the line can give
 pub record Before (line : List ℕ) (m : Margin) (p : Parser) (q o l : List ℕ) : Type 0 where
@@ -61,14 +61,19 @@ pub record StandsFor (r : Parser) (q o l : List ℕ) (s : State) : Type 0 where
   pub same : stands r q o l ≡ s
   pub labels : r .labels ≤ length l
 
+-- at a line of the text: the line itself
+pub record LineFed (text : List ℕ) (line : Line) (reading : ℕ) (p : Parser) (q o l : List ℕ) : Type 0 where
+  pub ordered : line .start ≤ line .end
+  pub within : line .end ≤ length text
+  pub lined : Lined text (viewOf text line .bytes) (record { base = line .start; before = byte-before text (line .start) }) reading p q o l
+
 -- a sheet that passes questions 2 to 6 of document 01, with a label room of 32 bits
-pub record Sheeted (text starts ends q o l : List ℕ) : Type 0 where
-  pub paired : length starts ≡ length ends
+pub record Sheeted (text : List ℕ) (ls : List Line) (q o l : List ℕ) : Type 0 where
   pub small : length text ≤ 1048576
-  pub listed : length starts ≤ 1048576
-  pub fed : Fed text (lines-of starts ends)
-  pub room : (2 * total (lines-of starts ends) + 1) * 8 ≤ length q
-  pub stack : total (lines-of starts ends) * 4 ≤ length o
+  pub listed : length ls ≤ 1048576
+  pub fed : Fed text ls
+  pub room : (2 * total ls + 1) * 8 ≤ length q
+  pub stack : total ls * 4 ≤ length o
   pub label-room : length l < 2 ^ 32
 
 -- the line is at its end, or the sheet is refused

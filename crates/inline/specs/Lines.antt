@@ -12,3 +12,7 @@ lines-of [] [] = []
 lines-of (a ∷ starts) [] = unpaired ∷ lines-of starts []
 lines-of [] (b ∷ ends) = unpaired ∷ lines-of [] ends
 lines-of (a ∷ starts) (b ∷ ends) = record { start = a; end = b } ∷ lines-of starts ends
+
+-- what stands past the end of a line list
+abbrev pub none : Line
+none = record { start = 0; end = 0 }

@@ -3,11 +3,11 @@ ghost use mathlib.Core.Path.{_≡_};
 ghost use mathlib.Core.List.{List};
 ghost use Prim.Native.Nat.{ℕ, _+_, _*_, _^_, _≤_, _<_};
 ghost use lib.ListN.{length};
-ghost use Rattle.reading.specs.Machine.{byte-before};
+ghost use Rattle.reading.specs.Machine.{byte-before, viewOf};
 ghost use Rattle.reading.specs.Verbatim as said;
 ghost use Rattle.reading.specs.Reading.{step, line as line-of, read as read-of, start, sheet};
 ghost use Rattle.rooms.specs.Standing.{stands, viewed, Stepped, Changed, Room, staying};
-ghost use Rattle.inline.specs.Asks.{Before, Lined, Sheeted, StandsFor, ending, overOf, Closing};
+ghost use Rattle.inline.specs.Asks.{Before, Lined, LineFed, Sheeted, StandsFor, ending, overOf, Closing};
 ghost use Rattle.inline.specs.Lines.{lines-of};
 use lex::Cursor;
 use lex::Kind;
@@ -124,8 +124,29 @@ fn margin_of(text: &[u8], start: usize) -> Margin
     }
 }
 
+// A line of the text, from its start to before its end.
+pub fn feed_line(
+    text: &[u8],
+    start: usize,
+    end: usize,
+    reading: u32,
+    p: Parser,
+    queue: &mut [u32],
+    openers: &mut [u32],
+    labels: &mut [u8],
+) -> Parser
+    requires { ⌜ LineFed (now text) (record { start = start; end = end }) reading p (now queue) (now openers) (now labels) ⌝ }
+    ensures { λ r. ⌜ StandsFor r (now (queue .exit)) (now (openers .exit)) (now (labels .exit)) (line-of (sheet (now (text .entry)) reading
+        (length (now (labels .entry)))) (viewOf (now (text .entry)) (record { start = start; end = end })) (stands p (now (queue .entry))
+        (now (openers .entry)) (now (labels .entry)))) ⌝ }
+{
+    let m = margin_of(text, start);
+    let line = &text[start..end];
+    read_line(text, line, m, reading, p, queue, openers, labels)
+}
+
 // Nothing is queued, open or refused at first.
-fn fresh() -> Parser
+pub fn fresh() -> Parser
     ensures { λ r. ⌜ ((q o l : List ℕ) → stands r q o l ≡ start) ⌝ }
     ensures { λ r. ⌜ r .labels ≡ 0 ⌝ }
 {
@@ -143,7 +164,7 @@ fn fresh() -> Parser
 }
 
 // The end: a verbatim that is still open gets its exit.
-fn finish(end: usize, p: Parser, queue: &mut [u32]) -> Parser
+pub fn finish(end: usize, p: Parser, queue: &mut [u32]) -> Parser
     requires { ⌜ end < 2 ^ 32 ⌝ }
     requires { ⌜ Room 1 p (now queue) ⌝ }
     requires { ⌜ Closing (p .refused) p (now queue) ⌝ }
@@ -166,7 +187,8 @@ pub fn parse(
     openers: &mut [u32],
     labels: &mut [u8],
 ) -> Parser
-    requires { ⌜ Sheeted (now text) (now starts) (now ends) (now queue) (now openers) (now labels) ⌝ }
+    requires { ⌜ length (now starts) ≡ length (now ends) ⌝ }
+    requires { ⌜ Sheeted (now text) (lines-of (now starts) (now ends)) (now queue) (now openers) (now labels) ⌝ }
     ensures { λ r. ⌜ StandsFor r (now (queue .exit)) (now (openers .exit)) (now (labels .exit)) (read-of (sheet (now (text .entry)) reading
         (length (now (labels .entry)))) (lines-of (now (starts .entry)) (now (ends .entry)))) ⌝ }
 {
@@ -174,11 +196,9 @@ pub fn parse(
     let mut end = 0;
     let mut i = 0;
     while i < starts.len() {
-        let from = starts[i];
+        let start = starts[i];
         end = ends[i];
-        let m = margin_of(text, from);
-        let line = &text[from..end];
-        p = read_line(text, line, m, reading, p, queue, openers, labels);
+        p = feed_line(text, start, end, reading, p, queue, openers, labels);
         i += 1;
     }
     finish(end, p, queue)

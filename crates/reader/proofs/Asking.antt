@@ -137,141 +137,124 @@ module _ (s : Lines) (q o : ℕ) where
   asked-fed n c h k d = sym (ap (λ (z : Lines). askedLines z q o) h ∙ rw (eq-eqb (lack n q o) 0 (sym k ∙ d), askedLines))
 
 -- the limits, and then the lines
-module _ (text starts ends : List ℕ) (reading q o n c : ℕ) (w : (length starts ≤ n) × (length ends ≤ n) × (length starts < n → n ≡ length ends))
-    (k : c ≡ limit reading (length text) n) where
-  abbrev lines-all : List Line
-  lines-all = lines-of starts ends
+module _ (text : List ℕ) (ls : List Line) (reading q o n c : ℕ) (w : n ≡ length ls) (k : c ≡ limit reading (length text) n) where
+  same-limit : c ≡ limit reading (length text) (length ls)
+  same-limit = k ∙ ap (λ (z : ℕ). limit reading (length text) z) w
 
-  same-limit : c ≡ limit reading (length text) (length lines-all)
-  same-limit = k ∙ ap (λ (z : ℕ). limit reading (length text) z) (long-lines starts ends n w)
-
-  pub asked-limit : (r : Answer) → (c ≡ 0 → ⊥) → r ≡ refusal c 0 → asked.Refused r ≡ askedOf text lines-all reading q o
+  pub asked-limit : (r : Answer) → (c ≡ 0 → ⊥) → r ≡ refusal c 0 → asked.Refused r ≡ askedOf text ls reading q o
   unfolding askedOf
   asked-limit r d e =
       ap (λ (a : Answer). asked.Refused a) e
       ∙ ap (λ (z : ℕ). asked.Refused (refusal z 0)) same-limit
-      ∙ rw (ne-eqb (limit reading (length text) (length lines-all)) 0 (λ z. d (same-limit ∙ z)), askedOf)
+      ∙ rw (ne-eqb (limit reading (length text) (length ls)) 0 (λ z. d (same-limit ∙ z)), askedOf)
 
-  pub asked-lines : (s : Lines) (r : Asked) → c ≡ 0 → s ≡ linesSaid text lines-all → r ≡ askedLines s q o → r ≡ askedOf text lines-all reading q o
+  pub asked-lines : (s : Lines) (r : Asked) → c ≡ 0 → s ≡ linesSaid text ls → r ≡ askedLines s q o → r ≡ askedOf text ls reading q o
   unfolding askedOf
   asked-lines s r d f h =
-      rw (eq-eqb (limit reading (length text) (length lines-all)) 0 (sym same-limit ∙ d), askedOf) (h ∙ ap (λ (z : Lines). askedLines z q o) f)
+      rw (eq-eqb (limit reading (length text) (length ls)) 0 (sym same-limit ∙ d), askedOf) (h ∙ ap (λ (z : Lines). askedLines z q o) f)
 
   -- what the walk asks
-  pub limit-kept : c ≡ 0 → (length text ≤ 1048576) × ((length starts ≤ 1048576) × (length ends ≤ 1048576))
+  pub limit-kept : c ≡ 0 → (length text ≤ 1048576) × (n ≤ 1048576)
   unfolding limit
   limit-kept d = go (leb reading 1) refl (leb (length text) 1048576) refl (leb n 1048576) refl
     where
       go : (a : Bool) → leb reading 1 ≡ a → (b : Bool) → leb (length text) 1048576 ≡ b → (e : Bool) → leb n 1048576 ≡ e
-          → (length text ≤ 1048576) × ((length starts ≤ 1048576) × (length ends ≤ 1048576))
-      go true a true b true e =
-          let m = leb-true n 1048576 e in
-          (leb-true (length text) 1048576 b, (omega (arith, m, w .0), omega (arith, m, w .1)))
+          → (length text ≤ 1048576) × (n ≤ 1048576)
+      go true a true b true e = (leb-true (length text) 1048576 b, leb-true n 1048576 e)
       go true a true b false e = let z : c ≡ 2 = k ∙ rw (a, b, e, limit) in absurd (omega (arith, d, z))
       go true a false b e f = let z : c ≡ 2 = k ∙ rw (a, b, limit) in absurd (omega (arith, d, z))
       go false a b f e g = let z : c ≡ 1 = k ∙ rw (a, limit) in absurd (omega (arith, d, z))
 
--- what comes of questions 1 to 6 is the outcome
-module _ (text : List ℕ) (ls : List Line) (reading : ℕ) (rooms : Rooms) where
-  abbrev q : ℕ
-  q = length (rooms .queue)
+-- questions 1 to 6 as tests: the first that a sheet does not pass, or all of them
+module _ (text : List ℕ) (ls : List Line) (reading q o : ℕ) where
+  abbrev t₁ : Bool
+  t₁ = leb reading 1
 
-  abbrev o : ℕ
-  o = length (rooms .openers)
+  abbrev t₂ : Bool
+  t₂ = leb (length text) 1048576 && leb (length ls) 1048576
 
-  pub outcome-asked : outcome text ls reading rooms ≡ concluded text ls reading rooms (askedOf text ls reading q o)
-  unfolding outcome concluded askedOf limit linesSaid askedLines lack
-  outcome-asked = one (leb reading 1) refl
+  abbrev t₃ : Bool
+  t₃ = ltb (first-outside text ls) (length ls)
+
+  abbrev t₄ : Bool
+  t₄ = ltb (first-early 0 ls) (length ls)
+
+  abbrev t₅ : Bool
+  t₅ = leb (2 * total ls + 1) (q / 8)
+
+  abbrev t₆ : Bool
+  t₆ = leb (total ls) (o / 4)
+
+  by-tests : (G : Type 0)
+      → (t₁ ≡ false → G)
+      → (t₁ ≡ true → t₂ ≡ false → G)
+      → (t₁ ≡ true → t₂ ≡ true → t₃ ≡ true → G)
+      → (t₁ ≡ true → t₂ ≡ true → t₃ ≡ false → t₄ ≡ true → G)
+      → (t₁ ≡ true → t₂ ≡ true → t₃ ≡ false → t₄ ≡ false → t₅ ≡ false → G)
+      → (t₁ ≡ true → t₂ ≡ true → t₃ ≡ false → t₄ ≡ false → t₅ ≡ true → t₆ ≡ false → G)
+      → (t₁ ≡ true → t₂ ≡ true → t₃ ≡ false → t₄ ≡ false → t₅ ≡ true → t₆ ≡ true → G) → G
+  by-tests G n₁ n₂ n₃ n₄ n₅ n₆ all = go t₁ refl t₂ refl t₃ refl t₄ refl t₅ refl t₆ refl
     where
-      Same : Type 0
-      Same = outcome text ls reading rooms ≡ concluded text ls reading rooms (askedOf text ls reading q o)
+      go : (a : Bool) → t₁ ≡ a → (b : Bool) → t₂ ≡ b → (c : Bool) → t₃ ≡ c → (d : Bool) → t₄ ≡ d → (e : Bool) → t₅ ≡ e → (f : Bool) → t₆ ≡ f → G
+      go false h₁ b h₂ c h₃ d h₄ e h₅ f h₆ = n₁ h₁
+      go true h₁ false h₂ c h₃ d h₄ e h₅ f h₆ = n₂ h₁ h₂
+      go true h₁ true h₂ true h₃ d h₄ e h₅ f h₆ = n₃ h₁ h₂ h₃
+      go true h₁ true h₂ false h₃ true h₄ e h₅ f h₆ = n₄ h₁ h₂ h₃ h₄
+      go true h₁ true h₂ false h₃ false h₄ false h₅ f h₆ = n₅ h₁ h₂ h₃ h₄ h₅
+      go true h₁ true h₂ false h₃ false h₄ true h₅ false h₆ = n₆ h₁ h₂ h₃ h₄ h₅ h₆
+      go true h₁ true h₂ false h₃ false h₄ true h₅ true h₆ = all h₁ h₂ h₃ h₄ h₅ h₆
 
-      six : leb reading 1 ≡ true → leb (length text) 1048576 && leb (length ls) 1048576 ≡ true → ltb (first-outside text ls) (length ls) ≡ false
-          → ltb (first-early 0 ls) (length ls) ≡ false → leb (2 * total ls + 1) (q / 8) ≡ true → (b : Bool) → leb (total ls) (o / 4) ≡ b → Same
-      six e f g h k true m = rw (e, f, g, h, k, m, outcome, askedOf, limit, linesSaid, askedLines, lack, concluded)
-      six e f g h k false m = rw (e, f, g, h, k, m, outcome, askedOf, limit, linesSaid, askedLines, lack, concluded) (rw (k, m, lack))
-
-      five : leb reading 1 ≡ true → leb (length text) 1048576 && leb (length ls) 1048576 ≡ true → ltb (first-outside text ls) (length ls) ≡ false
-          → ltb (first-early 0 ls) (length ls) ≡ false → (b : Bool) → leb (2 * total ls + 1) (q / 8) ≡ b → Same
-      five e f g h true k = six e f g h k (leb (total ls) (o / 4)) refl
-      five e f g h false k = rw (e, f, g, h, k, outcome, askedOf, limit, linesSaid, askedLines, lack, concluded) (rw (k, lack))
-
-      four : leb reading 1 ≡ true → leb (length text) 1048576 && leb (length ls) 1048576 ≡ true → ltb (first-outside text ls) (length ls) ≡ false
-          → (b : Bool) → ltb (first-early 0 ls) (length ls) ≡ b → Same
-      four e f g false h = five e f g h (leb (2 * total ls + 1) (q / 8)) refl
-      four e f g true h = rw (e, f, g, h, outcome, askedOf, limit, linesSaid, askedLines, concluded)
-
-      three : leb reading 1 ≡ true → leb (length text) 1048576 && leb (length ls) 1048576 ≡ true → (b : Bool)
-          → ltb (first-outside text ls) (length ls) ≡ b → Same
-      three e f false g = four e f g (ltb (first-early 0 ls) (length ls)) refl
-      three e f true g = rw (e, f, g, outcome, askedOf, limit, linesSaid, askedLines, concluded)
-
-      two : leb reading 1 ≡ true → (b : Bool) → leb (length text) 1048576 && leb (length ls) 1048576 ≡ b → Same
-      two e true f = three e f (ltb (first-outside text ls) (length ls)) refl
-      two e false f = rw (e, f, outcome, askedOf, limit, concluded) (rw (e, f, limit))
-
-      one : (b : Bool) → leb reading 1 ≡ b → Same
-      one true e = two e (leb (length text) 1048576 && leb (length ls) 1048576) refl
-      one false e = rw (e, outcome, askedOf, limit, concluded) (rw (e, limit))
+-- what comes of them is the outcome
+pub outcome-asked : (text : List ℕ) (ls : List Line) (reading : ℕ) (rooms : Rooms)
+    → outcome text ls reading rooms ≡ concluded text ls reading rooms (askedOf text ls reading (length (rooms .queue)) (length (rooms .openers)))
+unfolding outcome concluded askedOf limit linesSaid askedLines lack
+outcome-asked text ls reading rooms =
+    by-tests text ls reading (length (rooms .queue)) (length (rooms .openers)) _
+    (λ e. rw (e, outcome, askedOf, limit, concluded) (rw (e, limit)))
+    (λ e f. rw (e, f, outcome, askedOf, limit, concluded) (rw (e, f, limit)))
+    (λ e f g. rw (e, f, g, outcome, askedOf, limit, linesSaid, askedLines, concluded))
+    (λ e f g h. rw (e, f, g, h, outcome, askedOf, limit, linesSaid, askedLines, concluded))
+    (λ e f g h k. rw (e, f, g, h, k, outcome, askedOf, limit, linesSaid, askedLines, lack, concluded) (rw (k, lack)))
+    (λ e f g h k m. rw (e, f, g, h, k, m, outcome, askedOf, limit, linesSaid, askedLines, lack, concluded) (rw (k, m, lack)))
+    (λ e f g h k m. rw (e, f, g, h, k, m, outcome, askedOf, limit, linesSaid, askedLines, lack, concluded))
 
 -- and a sheet that passes them has what the parser asks
-module _ (text starts ends : List ℕ) (reading : ℕ) (qs os : List ℕ) where
-  abbrev pub fed-lines : List Line
-  fed-lines = lines-of starts ends
+pub asked-passed : (text : List ℕ) (ls : List Line) (reading : ℕ) (qs os : List ℕ) → asked.Fed ≡ askedOf text ls reading (length qs) (length os)
+    → Passed text ls qs os
+unfolding askedOf limit linesSaid askedLines lack
+asked-passed text ls reading qs os x =
+    by-tests text ls reading (length qs) (length os) _
+    (λ e. absurd (no-refusal _ (rw (e, askedOf, limit) at x)))
+    (λ e f. absurd (no-refusal _ (rw (e, f, askedOf, limit) at x)))
+    (λ e f g. absurd (no-refusal _ (rw (e, f, g, askedOf, limit, linesSaid, askedLines) at x)))
+    (λ e f g h. absurd (no-refusal _ (rw (e, f, g, h, askedOf, limit, linesSaid, askedLines) at x)))
+    (λ e f g h k. absurd (no-refusal _ (rw (e, f, g, h, k, askedOf, limit, linesSaid, askedLines, lack) at x)))
+    (λ e f g h k m. absurd (no-refusal _ (rw (e, f, g, h, k, m, askedOf, limit, linesSaid, askedLines, lack) at x)))
+    (λ e f g h k m.
+    let b = both (leb (length text) 1048576) (leb (length ls) 1048576) f in
+    record {
+      small = leb-true (length text) 1048576 (b .0);
+      listed = leb-true (length ls) 1048576 (b .1);
+      fed = record { inside = g; apart = h };
+      room = omega (arith, leb-true (2 * total ls + 1) (length qs / 8) k);
+      stack = omega (arith, leb-true (total ls) (length os / 4) m);
+    })
+  where
+    no-refusal : (a : Answer) → asked.Fed ≡ asked.Refused a → ⊥
+    no-refusal a e = let z : _≡_ {A = ℕ} 0 1 = cc in omega arith
 
-  no-refusal : (a : Answer) → asked.Fed ≡ asked.Refused a → ⊥
-  no-refusal a e = let z : _≡_ {A = ℕ} 0 1 = cc in omega arith
+    both : (p r : Bool) → p && r ≡ true → (p ≡ true) × (r ≡ true)
+    both true true e = (refl, refl)
+    both true false e = absurd (let z : _≡_ {A = ℕ} 0 1 = cc in omega arith)
+    both false r e = absurd (let z : _≡_ {A = ℕ} 0 1 = cc in omega arith)
 
-  paired : (ss es : List ℕ) (a : ℕ) → Rising text a (lines-of ss es) → length ss ≡ length es
-  unfolding lines-of Rising
-  paired [] [] a r = refl
-  paired [] (b ∷ es) a r = absurd (omega (arith, r .1))
-  paired (c ∷ ss) [] a r = absurd (omega (arith, r .1))
-  paired (c ∷ ss) (b ∷ es) a r = ap suc (paired ss es b (r .3))
-
-  pub asked-passed : asked.Fed ≡ askedOf text fed-lines reading (length qs) (length os) → Passed text starts ends qs os
-  unfolding askedOf limit linesSaid askedLines lack
-  asked-passed x = one (leb reading 1) refl (leb (length text) 1048576 && leb (length fed-lines) 1048576) refl x
-    where
-      Is : Type 0
-      Is = asked.Fed ≡ askedOf text fed-lines reading (length qs) (length os)
-
-      six : leb (length text) 1048576 && leb (length fed-lines) 1048576 ≡ true → ltb (first-outside text fed-lines) (length fed-lines) ≡ false
-          → ltb (first-early 0 fed-lines) (length fed-lines) ≡ false → leb (2 * total fed-lines + 1) (length qs / 8) ≡ true
-          → leb (total fed-lines) (length os / 4) ≡ true → Passed text starts ends qs os
-      six f g h k m =
-          let b = both (leb (length text) 1048576) (leb (length fed-lines) 1048576) f in
-          record {
-            paired = paired starts ends 0 (rising text 0 fed-lines g h);
-            small = leb-true (length text) 1048576 (b .0);
-            listed = omega (arith, lines-many starts ends .0, leb-true (length fed-lines) 1048576 (b .1));
-            fed = record { inside = g; apart = h };
-            room = omega (arith, leb-true (2 * total fed-lines + 1) (length qs / 8) k);
-            stack = omega (arith, leb-true (total fed-lines) (length os / 4) m);
-          }
-        where
-          both : (p r : Bool) → p && r ≡ true → (p ≡ true) × (r ≡ true)
-          both true true e = (refl, refl)
-          both true false e = absurd (let z : _≡_ {A = ℕ} 0 1 = cc in omega arith)
-          both false r e = absurd (let z : _≡_ {A = ℕ} 0 1 = cc in omega arith)
-
-      five : leb reading 1 ≡ true → leb (length text) 1048576 && leb (length fed-lines) 1048576 ≡ true
-          → ltb (first-outside text fed-lines) (length fed-lines) ≡ false → ltb (first-early 0 fed-lines) (length fed-lines) ≡ false → (b : Bool)
-          → leb (2 * total fed-lines + 1) (length qs / 8) ≡ b → (d : Bool) → leb (total fed-lines) (length os / 4) ≡ d → Is → Passed text starts ends qs os
-      five e f g h true k true m x = six f g h k m
-      five e f g h true k false m x = absurd (no-refusal _ (rw (e, f, g, h, k, m, askedOf, limit, linesSaid, askedLines, lack) at x))
-      five e f g h false k d m x = absurd (no-refusal _ (rw (e, f, g, h, k, askedOf, limit, linesSaid, askedLines, lack) at x))
-
-      three : leb reading 1 ≡ true → leb (length text) 1048576 && leb (length fed-lines) 1048576 ≡ true → (b : Bool)
-          → ltb (first-outside text fed-lines) (length fed-lines) ≡ b → (d : Bool) → ltb (first-early 0 fed-lines) (length fed-lines) ≡ d → Is
-          → Passed text starts ends qs os
-      three e f false g false h x = five e f g h (leb (2 * total fed-lines + 1) (length qs / 8)) refl (leb (total fed-lines) (length os / 4)) refl x
-      three e f false g true h x = absurd (no-refusal _ (rw (e, f, g, h, askedOf, limit, linesSaid, askedLines) at x))
-      three e f true g d h x = absurd (no-refusal _ (rw (e, f, g, askedOf, limit, linesSaid, askedLines) at x))
-
-      one : (b : Bool) → leb reading 1 ≡ b → (d : Bool) → leb (length text) 1048576 && leb (length fed-lines) 1048576 ≡ d → Is
-          → Passed text starts ends qs os
-      one true e true f x =
-          three e f (ltb (first-outside text fed-lines) (length fed-lines)) refl (ltb (first-early 0 fed-lines) (length fed-lines)) refl x
-      one true e false f x = absurd (no-refusal _ (rw (e, f, askedOf, limit) at x))
-      one false e d f x = absurd (no-refusal _ (rw (e, askedOf, limit) at x))
+-- of two lists of numbers, they are of one length
+pub passed-paired : (text ss es qs os : List ℕ) → Passed text (lines-of ss es) qs os → length ss ≡ length es
+unfolding lines-of Rising
+passed-paired text ss es qs os w = go ss es 0 (rising text 0 (lines-of ss es) (w .fed .inside) (w .fed .apart))
+  where
+    go : (ss es : List ℕ) (a : ℕ) → Rising text a (lines-of ss es) → length ss ≡ length es
+    go [] [] a r = refl
+    go [] (b ∷ es) a r = absurd (omega (arith, r .1))
+    go (c ∷ ss) [] a r = absurd (omega (arith, r .1))
+    go (c ∷ ss) (b ∷ es) a r = ap suc (go ss es b (r .3))

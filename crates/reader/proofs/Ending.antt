@@ -13,6 +13,7 @@ use lib.ListN.{length, take, drop, set, replicate, length-append, length-drop, l
 use lib.Seq.{length-take-le, take-append-le, take-all, take-at, take-suc-set}
 use Rattle.reading.specs.declared.Answer.{Answer}
 use Rattle.reading.specs.declared.Event.{Event}
+use Rattle.reading.specs.declared.Line.{Line}
 use Rattle.reading.specs.declared.Refused.{Refused}
 use Rattle.reading.specs.declared.Refused.the-variants as refused
 use Rattle.reading.specs.Machine.{State}
@@ -23,7 +24,6 @@ use Rattle.reading.proofs.Theorems.{end-room, room, rising}
 use Rattle.rooms.specs.declared.Parser.{Parser}
 use Rattle.rooms.specs.Records.{events, eventAt}
 use Rattle.rooms.proofs.Rows.{rows-length}
-use Rattle.inline.specs.Lines.{lines-of}
 use Rattle.inline.specs.Asks.{Sheeted, StandsFor}
 use Rattle.inline.proofs.Sheets.{rising-total}
 use Rattle.drain.specs.declared.Drained.the-variants.{All, Full}
@@ -144,7 +144,7 @@ room-counts l n h = go (leb (length l) 4294967295) refl
         ∙ rw (e, label-room)
 
 -- the label room that counts
-module _ (text starts ends : List ℕ) (reading : ℕ) (q o l : List ℕ) (w : Passed text starts ends q o) (n : ℕ) (counts : n ≡ label-room l) where
+module _ (text : List ℕ) (ls : List Line) (reading : ℕ) (q o l : List ℕ) (w : Passed text ls q o) (n : ℕ) (counts : n ≡ label-room l) where
   within : (n ≤ length l) × (n ≤ 4294967295)
   within = go (leb (length l) 4294967295) refl
     where
@@ -155,10 +155,9 @@ module _ (text starts ends : List ℕ) (reading : ℕ) (q o l : List ℕ) (w : P
   long : length (take n l) ≡ n
   long = length-take-le n l (within .0)
 
-  pub sheeted : Sheeted text starts ends q o (take n l)
+  pub sheeted : Sheeted text ls q o (take n l)
   sheeted =
       record {
-        paired = w .paired;
         small = w .small;
         listed = w .listed;
         fed = w .fed;
@@ -168,32 +167,32 @@ module _ (text starts ends : List ℕ) (reading : ℕ) (q o l : List ℕ) (w : P
       }
 
   -- what stands in it stands in the room lent
-  pub stood : (p : Parser) (q' o' l' l'' : List ℕ) → StandsFor p q' o' l' (read (sheet text reading (length (take n l))) (lines-of starts ends))
+  pub stood : (p : Parser) (q' o' l' l'' : List ℕ) → StandsFor p q' o' l' (read (sheet text reading (length (take n l))) ls)
       → length l' ≡ length (take n l) → l'' ≡ l' ++ drop n l
-      → StandsFor p q' o' l'' (read (sheet text reading (label-room l)) (lines-of starts ends)) × (p .labels < 2 ^ 32)
+      → StandsFor p q' o' l'' (read (sheet text reading (label-room l)) ls) × (p .labels < 2 ^ 32)
   stood p q' o' l' l'' s k e =
       let t : take (p .labels) l'' ≡ take (p .labels) l' = ap (λ (z : List ℕ). take (p .labels) z) e ∙ take-append-le (p .labels) l' (drop n l) (s .labels) in (
         record {
-          same = rw t (s .same) ∙ ap (λ (m : ℕ). read (sheet text reading m) (lines-of starts ends)) (long ∙ counts);
+          same = rw t (s .same) ∙ ap (λ (m : ℕ). read (sheet text reading m) ls) (long ∙ counts);
           labels = omega (arith, s .labels, ap (λ (z : List ℕ). length z) e, length-append l' (drop n l));
         },
         omega (arith, s .labels, k, long, within .1),
       )
 
 -- a parser that stands for the reading of lines that passed has its counts in its rooms
-pub parsed : (text starts ends : List ℕ) (reading : ℕ) (q o l : List ℕ) → Passed text starts ends q o → (p : Parser) (q' o' l' : List ℕ)
-    → StandsFor p q' o' l' (read (sheet text reading (label-room l)) (lines-of starts ends)) → p .labels < 2 ^ 32 → length q' ≡ length q
+pub parsed : (text : List ℕ) (ls : List Line) (reading : ℕ) (q o l : List ℕ) → Passed text ls q o → (p : Parser) (q' o' l' : List ℕ)
+    → StandsFor p q' o' l' (read (sheet text reading (label-room l)) ls) → p .labels < 2 ^ 32 → length q' ≡ length q
     → Parsed p q' l'
-parsed text starts ends reading q o l w p q' o' l' s b k =
-    let n : p .events ≡ length (read (sheet text reading (label-room l)) (lines-of starts ends) .queue) =
+parsed text ls reading q o l w p q' o' l' s b k =
+    let n : p .events ≡ length (read (sheet text reading (label-room l)) ls .queue) =
     sym (rows-length eventAt (p .events) q') ∙ ap (λ (z : State). length (z .queue)) (s .same) in
-    let t : total (lines-of starts ends) ≤ length text = omega (arith, rising-total text 0 (lines-of starts ends) (omega arith) (rising text 0 (lines-of starts ends) (w .fed .inside) (w .fed .apart))) in
+    let t : total ls ≤ length text = omega (arith, rising-total text 0 ls (omega arith) (rising text 0 ls (w .fed .inside) (w .fed .apart))) in
     record {
-      queued = omega (arith, n, end-room (sheet text reading (label-room l)) (lines-of starts ends) (w .fed) .0, w .room, k);
+      queued = omega (arith, n, end-room (sheet text reading (label-room l)) ls (w .fed) .0, w .room, k);
       few =
           λ r.
-          let m = room (sheet text reading (label-room l)) (lines-of starts ends) (w .fed) (sym (ap (λ (z : State). z .refused) (s .same)) ∙ r) in
-          let d : length (drain (events (p .events) q')) ≡ length (drain (read (sheet text reading (label-room l)) (lines-of starts ends) .queue)) = ap (λ (z : State). length (drain (z .queue))) (s .same) in
+          let m = room (sheet text reading (label-room l)) ls (w .fed) (sym (ap (λ (z : State). z .refused) (s .same)) ∙ r) in
+          let d : length (drain (events (p .events) q')) ≡ length (drain (read (sheet text reading (label-room l)) ls .queue)) = ap (λ (z : State). length (drain (z .queue))) (s .same) in
           omega (arith, d, m, t, w .small);
       labels = s .labels;
       bytes = b;

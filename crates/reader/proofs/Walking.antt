@@ -10,10 +10,11 @@ use native.Mathlib.Omega.{arith}
 use borrow.Author.Tests.{ltb-true, ltb-false, leb-true, leb-false, lt-ltb, le-ltb}
 use lib.Dec.{leb, ltb}
 use lib.ListN.{length, getD, drop, drop-of-length-le}
+use lib.Seq.{drop-cons}
 use Rattle.reading.specs.declared.Line.{Line}
 use Rattle.reading.specs.Questions.{total, first-outside, first-early}
-use Rattle.inline.specs.Lines.{lines-of, unpaired}
-use Rattle.inline.proofs.Pairs.{lines-length, lines-many, lines-at, no-end, no-start}
+use Rattle.inline.specs.Lines.{lines-of, unpaired, none}
+use Rattle.inline.proofs.Pairs.{no-end, no-start}
 use Rattle.inline.proofs.Sheets.{rising-total}
 use Rattle.reading.proofs.Theorems.{rising}
 use Rattle.reader.specs.declared.Lines.{Lines}
@@ -128,37 +129,32 @@ module _ (text : List ℕ) where
   unfolding linesSaid
   rest-said ls = rw (zero-add (first-outside text ls), zero-add (first-early 0 ls), zero-add (total ls)) at (on-time ls 0 0 0)
 
--- the loop's invariant, behind i lines
-pub record Going (text starts ends : List ℕ) (n : ℕ) (w : Walk) (i : ℕ) : Type 0 where
+-- the loop's invariant, behind i lines of which n are walked
+pub record Going (text : List ℕ) (ls : List Line) (n : ℕ) (w : Walk) (i : ℕ) : Type 0 where
   pub within : i ≤ n
-  pub same : rest (length text) i w (drop i (lines-of starts ends)) ≡ linesSaid text (lines-of starts ends)
+  pub same : rest (length text) i w (drop i ls) ≡ linesSaid text ls
   pub low : w .total ≤ i * 1048576
 
-module _ (text starts ends : List ℕ) where
-  abbrev ls : List Line
-  ls = lines-of starts ends
-
-  pub going-first : (n : ℕ) → Going text starts ends n (record { end = 0; total = 0; early = early.No }) 0
+module _ (text : List ℕ) (ls : List Line) where
+  pub going-first : (n : ℕ) → Going text ls n (record { end = 0; total = 0; early = early.No }) 0
   going-first n = record { within = omega arith; same = rest-said text ls; low = omega arith }
 
-  module _ (n i : ℕ) (w : Walk) (g : Going text starts ends n w i) where
-    module _ (m : i < n) (a : i < length starts) (b : i < length ends) where
-      abbrev l : Line
-      l = record { start = getD starts i 0; end = getD ends i 0 }
-
+  module _ (n i : ℕ) (w : Walk) (g : Going text ls n w i) where
+    -- a line is left
+    module _ (m : i < n) (some : i < length ls) (l : Line) (is : l ≡ getD ls i none) where
       here : rest (length text) i w (l ∷ drop (suc i) ls) ≡ linesSaid text ls
-      here = ap (λ (ms : List Line). rest (length text) i w ms) (sym (lines-at starts ends i a b)) ∙ g .same
+      here = ap (λ (ms : List Line). rest (length text) i w ms) (sym (drop-cons ls i none some ∙ ap (λ (x : Line). x ∷ drop (suc i) ls) (sym is))) ∙ g .same
 
-      pub going-on : length text ≤ 1048576 → (next : Walk) → walked.On next ≡ lineOf (length text) w i l → Going text starts ends n next (i + 1)
+      pub going-on : length text ≤ 1048576 → (next : Walk) → walked.On next ≡ lineOf (length text) w i l → Going text ls n next (i + 1)
       unfolding lineOf rest
       going-on small next e =
-          subst (λ (k : ℕ). Going text starts ends n next k) (sym (add-one i)) (go (leb (l .start) (l .end)) refl (leb (l .end) (length text)) refl)
+          subst (λ (k : ℕ). Going text ls n next k) (sym (add-one i)) (go (leb (l .start) (l .end)) refl (leb (l .end) (length text)) refl)
         where
-          go : (p : Bool) → leb (l .start) (l .end) ≡ p → (q : Bool) → leb (l .end) (length text) ≡ q → Going text starts ends n next (suc i)
+          go : (p : Bool) → leb (l .start) (l .end) ≡ p → (q : Bool) → leb (l .end) (length text) ≡ q → Going text ls n next (suc i)
           go true p true q =
               let f : walked.On next ≡ walked.On (onward w i l) = e ∙ rw (p, q, lineOf) in
               let z : next ≡ onward w i l = cc in
-              subst (λ (v : Walk). Going text starts ends n v (suc i)) (sym z)
+              subst (λ (v : Walk). Going text ls n v (suc i)) (sym z)
               (record {
                 within = omega (arith, m);
                 same = rw (p, q, rest) at here;
@@ -177,28 +173,30 @@ module _ (text starts ends : List ℕ) where
           go true p false q = rw (p, q, rest) at here
           go false p q r = rw (p, rest) at here
 
-    -- behind the last pair
-    pub going-odd : (i ≡ length starts) ⊎ (i ≡ length ends) → (length starts ≡ length ends → ⊥) → i ≤ length starts → i ≤ length ends
-        → lines.Outside i ≡ linesSaid text ls
+    pub going-end : length ls ≤ i → endedOf (w .early) (w .total) ≡ linesSaid text ls
     unfolding rest
-    going-odd h d a b =
-        ⊎-elim
-        (λ (e : i ≡ length starts).
-        out (ap (λ (k : ℕ). drop k ls) e ∙ no-start starts ends (less _ _ (omega (arith, e, b)) d) ∙ ap (λ (k : ℕ). unpaired ∷ drop (suc k) ls) (sym e)))
-        (λ (e : i ≡ length ends).
-        out (ap (λ (k : ℕ). drop k ls) e ∙ no-end starts ends (less _ _ (omega (arith, e, a)) (λ z. d (sym z))) ∙ ap (λ (k : ℕ). unpaired ∷ drop (suc k) ls) (sym e)))
-        h
-      where
-        out : drop i ls ≡ unpaired ∷ drop (suc i) ls → lines.Outside i ≡ linesSaid text ls
-        out e = ap (λ (ms : List Line). rest (length text) i w ms) (sym e) ∙ g .same
+    going-end h = ap (λ (ms : List Line). rest (length text) i w ms) (sym (drop-of-length-le ls h)) ∙ g .same
 
-        less : (a b : ℕ) → a ≤ b → (a ≡ b → ⊥) → a < b
-        less a b h d = ⊎-elim (λ (e : a ≡ b). absurd (d e)) (λ (l : a < b). l) (eq-or-lt-of-le h)
+-- behind the last pair: a start without an end, or an end without a start
+pub going-odd : (text ss es : List ℕ) (n i : ℕ) (w : Walk) → Going text (lines-of ss es) n w i → (i ≡ length ss) ⊎ (i ≡ length es)
+    → (length ss ≡ length es → ⊥) → i ≤ length ss → i ≤ length es → lines.Outside i ≡ linesSaid text (lines-of ss es)
+unfolding rest
+going-odd text ss es n i w g h d a b =
+    ⊎-elim
+    (λ (e : i ≡ length ss).
+    out (ap (λ (k : ℕ). drop k ls) e ∙ no-start ss es (less _ _ (omega (arith, e, b)) d) ∙ ap (λ (k : ℕ). unpaired ∷ drop (suc k) ls) (sym e)))
+    (λ (e : i ≡ length es).
+    out (ap (λ (k : ℕ). drop k ls) e ∙ no-end ss es (less _ _ (omega (arith, e, a)) (λ z. d (sym z))) ∙ ap (λ (k : ℕ). unpaired ∷ drop (suc k) ls) (sym e)))
+    h
+  where
+    ls : List Line
+    ls = lines-of ss es
 
-    pub going-end : length starts ≡ length ends → i ≡ length starts → endedOf (w .early) (w .total) ≡ linesSaid text ls
-    unfolding rest
-    going-end h e =
-        ap (λ (ms : List Line). rest (length text) i w ms) (sym (drop-of-length-le ls {i = i} (omega (arith, e, lines-length starts ends h)))) ∙ g .same
+    out : drop i (lines-of ss es) ≡ unpaired ∷ drop (suc i) (lines-of ss es) → lines.Outside i ≡ linesSaid text (lines-of ss es)
+    out e = ap (λ (ms : List Line). rest (length text) i w ms) (sym e) ∙ g .same
+
+    less : (a b : ℕ) → a ≤ b → (a ≡ b → ⊥) → a < b
+    less a b h d = ⊎-elim (λ (e : a ≡ b). absurd (d e)) (λ (l : a < b). l) (eq-or-lt-of-le h)
 
 -- an index is of a line, and fed lines have no more bytes than the text
 pub said-small : (text : List ℕ) (ls : List Line) → length text ≤ 1048576 → length ls ≤ 1048576 → Small (linesSaid text ls)
@@ -212,17 +210,9 @@ said-small text ls small listed = go (ltb (first-outside text ls) (length ls)) r
         rw (p, q, linesSaid, Small) (omega (arith, rising-total text 0 ls (omega arith) (rising text 0 ls p q), small))
 
 -- the same, of whatever was found
-pub found : (text starts ends : List ℕ) → (length text ≤ 1048576) × ((length starts ≤ 1048576) × (length ends ≤ 1048576)) → (r : Lines)
-    → r ≡ linesSaid text (lines-of starts ends) → (r ≡ linesSaid text (lines-of starts ends)) × Small r
-found text starts ends h r e = (e, subst Small (sym e) (said-small text (lines-of starts ends) (h .0) few))
-  where
-    few : length (lines-of starts ends) ≤ 1048576
-    few =
-        let m = lines-many starts ends in
-        ⊎-elim
-        (λ (b : length starts ≡ length (lines-of starts ends)). omega (arith, b, h .1 .0))
-        (λ (b : length starts < length (lines-of starts ends)). omega (arith, m .2 b, h .1 .1))
-        (eq-or-lt-of-le (m .0))
+pub found : (text : List ℕ) (ls : List Line) → length text ≤ 1048576 → length ls ≤ 1048576 → (r : Lines) → r ≡ linesSaid text ls
+    → (r ≡ linesSaid text ls) × Small r
+found text ls small listed r e = (e, subst Small (sym e) (said-small text ls small listed))
 
 -- the shorter of two lists is at its end
 pub at-end : (n i a b : ℕ) → i ≤ n → n ≤ i → (n ≤ a) × (n ≤ b) × (n < a → n ≡ b) → (i ≡ a) ⊎ (i ≡ b)

@@ -1,6 +1,5 @@
 -- Questions 1 to 6 as the reader asks them: the limits, the lines in one walk, the rooms. That they give the definition's outcome is a law.
 use Prim.Native.Nat.{ℕ, suc, _+_, _-_, _*_, _/_, _^_, _≤_, _<_}
-use mathlib.Core.Path.{_≡_}
 use mathlib.Core.List.{List, [], _∷_}
 use mathlib.Core.Bool.{true, false, _&&_}
 use lib.Dec.{leb, ltb, eqb}
@@ -9,7 +8,6 @@ use Rattle.reading.specs.declared.Line.{Line}
 use Rattle.reading.specs.declared.Answer.{Answer}
 use Rattle.reading.specs.Reading.{sheet, read}
 use Rattle.reading.specs.Questions.{Rooms, Outcome, Fed, total, first-outside, first-early, label-room, judged}
-use Rattle.inline.specs.Lines.{lines-of}
 use Rattle.reader.specs.declared.Lines.{Lines}
 use Rattle.reader.specs.declared.Lines.the-variants as lines
 use Rattle.reader.specs.declared.Early.{Early}
@@ -63,13 +61,12 @@ concluded text ls reading rooms asked.Fed =
     judged (s .refused) (s .fits) s rooms
 
 -- a sheet that passes them
-pub record Passed (text starts ends q o : List ℕ) : Type 0 where
-  pub paired : length starts ≡ length ends
+pub record Passed (text : List ℕ) (ls : List Line) (q o : List ℕ) : Type 0 where
   pub small : length text ≤ 1048576
-  pub listed : length starts ≤ 1048576
-  pub fed : Fed text (lines-of starts ends)
-  pub room : (2 * total (lines-of starts ends) + 1) * 8 ≤ length q
-  pub stack : total (lines-of starts ends) * 4 ≤ length o
+  pub listed : length ls ≤ 1048576
+  pub fed : Fed text ls
+  pub room : (2 * total ls + 1) * 8 ≤ length q
+  pub stack : total ls * 4 ≤ length o
 
 -- the walk: the first early line so far, at a line i that starts at a, behind one that ends at b
 unfoldable pub earlyOf : Early → ℕ → ℕ → ℕ → Early

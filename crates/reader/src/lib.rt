@@ -12,7 +12,7 @@ ghost use Rattle.rooms.specs.Records.{events as events-of};
 ghost use Rattle.rooms.specs.Standing.{stands};
 ghost use Rattle.inline.specs.Lines.{lines-of};
 ghost use Rattle.inline.specs.Asks.{StandsFor};
-ghost use Rattle.reader.specs.Asking.{limit, linesSaid, lack, askedOf, earlyOf, lineOf, endedOf, Passed, Small};
+ghost use Rattle.reader.specs.Asking.{limit, linesSaid, lack, askedLines, askedOf, earlyOf, lineOf, endedOf, Passed, Small};
 ghost use Rattle.reader.specs.Asking.{refusal as refusal-of};
 ghost use Rattle.reader.specs.Lookup.{withinOf, homeIn, labelOf};
 ghost use Rattle.reader.specs.Telling.{lent, told, kept, accepts, braceOf, codeOf, Parsed};
@@ -29,27 +29,27 @@ const LARGEST: usize = 1048576;
 const LABELS: usize = 4294967295;
 
 // What is answered of the lines: their bytes, or the first that lies outside the text or starts before the end of the one before.
-enum Lines {
+pub enum Lines {
     Fed(usize),
     Outside(usize),
     Early(usize),
 }
 
 // The first line that starts before the end of the one before, if one was met.
-enum Early {
+pub enum Early {
     At(usize),
     No,
 }
 
 // Behind some lines: the end of the last, their bytes, and the first early one.
-struct Walk {
-    end: usize,
-    total: usize,
-    early: Early,
+pub struct Walk {
+    pub end: usize,
+    pub total: usize,
+    pub early: Early,
 }
 
 // After a line.
-enum Walked {
+pub enum Walked {
     On(Walk),
     Outside,
 }
@@ -61,13 +61,13 @@ struct Brace {
 }
 
 // What the questions before reading say: go on, or the refusal.
-enum Asked {
+pub enum Asked {
     Fed,
     Refused(Answer),
 }
 
 // Nothing is handed out.
-fn refusal(code: u32, place: u32) -> Answer
+pub fn refusal(code: u32, place: u32) -> Answer
     ensures { λ r. ⌜ r ≡ refusal-of code place ⌝ }
 {
     Answer {
@@ -79,7 +79,7 @@ fn refusal(code: u32, place: u32) -> Answer
 }
 
 // 3 and 4 of line i, behind others.
-fn walk_line(w: Walk, i: usize, start: usize, end: usize, text: usize) -> Walked
+pub fn walk_line(w: Walk, i: usize, start: usize, end: usize, text: usize) -> Walked
     requires { ⌜ w .total + text < 2 ^ 64 ⌝ }
     ensures { λ r. ⌜ r ≡ lineOf text w i (record { start = start; end = end }) ⌝ }
 {
@@ -113,7 +113,7 @@ fn first_early(early: Early, i: usize, start: usize, before: usize) -> Early
 }
 
 // Behind all lines.
-fn all_walked(w: Walk) -> Lines
+pub fn all_walked(w: Walk) -> Lines
     ensures { λ r. ⌜ r ≡ endedOf (w .early) (w .total) ⌝ }
 {
     let early = w.early;
@@ -138,8 +138,7 @@ fn shorter(a: usize, b: usize) -> usize
 // 3: has every line start ≤ end ≤ text length? 4: does each line start at or after the end of the one before?
 fn check_lines(text: &[u8], starts: &[usize], ends: &[usize]) -> Lines
     requires { ⌜ length (now text) ≤ 1048576 ⌝ }
-    requires { ⌜ length (now starts) ≤ 1048576 ⌝ }
-    requires { ⌜ length (now ends) ≤ 1048576 ⌝ }
+    requires { ⌜ length (lines-of (now starts) (now ends)) ≤ 1048576 ⌝ }
     ensures { λ r. ⌜ r ≡ linesSaid (now (text .entry)) (lines-of (now (starts .entry)) (now (ends .entry))) ⌝ }
     ensures { λ r. ⌜ Small r ⌝ }
 {
@@ -164,7 +163,7 @@ fn check_lines(text: &[u8], starts: &[usize], ends: &[usize]) -> Lines
 }
 
 // 1: is the reading 0 or 1? 2: is the text at most 1,048,576 bytes, and the line list at most 1,048,576 records?
-fn limits(reading: u32, text: usize, lines: usize) -> u32
+pub fn limits(reading: u32, text: usize, lines: usize) -> u32
     ensures { λ r. ⌜ r ≡ limit reading text lines ⌝ }
 {
     if 1 < reading {
@@ -193,6 +192,24 @@ fn roomy(n: usize, queue: usize, openers: usize) -> u32
     0
 }
 
+// 3 to 6, of what is said of the lines.
+pub fn ask_rooms(lines: Lines, queue: usize, openers: usize) -> Asked
+    requires { ⌜ Small lines ⌝ }
+    ensures { λ r. ⌜ r ≡ askedLines lines queue openers ⌝ }
+{
+    match lines {
+        Lines::Outside(i) => Asked::Refused(refusal(3, i as u32)),
+        Lines::Early(i) => Asked::Refused(refusal(4, i as u32)),
+        Lines::Fed(n) => {
+            let room = roomy(n, queue, openers);
+            if room != 0 {
+                return Asked::Refused(refusal(room, 0));
+            }
+            Asked::Fed
+        }
+    }
+}
+
 // 1 to 6.
 fn questions(
     text: &[u8],
@@ -209,17 +226,14 @@ fn questions(
         return Asked::Refused(refusal(limit, 0));
     }
     let lines = check_lines(text, starts, ends);
-    match lines {
-        Lines::Outside(i) => Asked::Refused(refusal(3, i as u32)),
-        Lines::Early(i) => Asked::Refused(refusal(4, i as u32)),
-        Lines::Fed(n) => {
-            let room = roomy(n, queue, openers);
-            if room != 0 {
-                return Asked::Refused(refusal(room, 0));
-            }
-            Asked::Fed
-        }
-    }
+    ask_rooms(lines, queue, openers)
+}
+
+// The bytes of a label room that count.
+pub fn counted(labels: usize) -> usize
+    ensures { λ r. ⌜ (r ≤ labels) × (r ≤ 4294967295) × ((r < labels) → r ≡ 4294967295) ⌝ }
+{
+    shorter(labels, LABELS)
 }
 
 // The lines, with the label room that counts.
@@ -232,12 +246,12 @@ fn parse_lines(
     openers: &mut [u32],
     labels: &mut [u8],
 ) -> Parser
-    requires { ⌜ Passed (now text) (now starts) (now ends) (now queue) (now openers) ⌝ }
+    requires { ⌜ Passed (now text) (lines-of (now starts) (now ends)) (now queue) (now openers) ⌝ }
     ensures { λ r. ⌜ StandsFor r (now (queue .exit)) (now (openers .exit)) (now (labels .exit)) (read-of (sheet (now (text .entry)) reading
         (label-room (now (labels .entry)))) (lines-of (now (starts .entry)) (now (ends .entry)))) ⌝ }
     ensures { λ r. ⌜ r .labels < 2 ^ 32 ⌝ }
 {
-    let room = shorter(labels.len(), LABELS);
+    let room = counted(labels.len());
     inline::parse(
         text,
         starts,
@@ -391,7 +405,7 @@ fn last_code(brace: bool, fits: bool) -> u32
 }
 
 // 7 to 9, of what was read.
-fn judge(
+pub fn judge(
     p: Parser,
     events: &mut [u32],
     queue: &mut [u32],

@@ -2,6 +2,7 @@
 // them.
 
 // A line record of the sheet: from start to before end.
+#[repr(C)]
 pub struct Line {
     pub start: usize,
     pub end: usize,

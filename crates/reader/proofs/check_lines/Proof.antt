@@ -4,12 +4,14 @@ use Prim.Native.Nat.{_-_}
 use native.Mathlib.Omega.{arith}
 use borrow.Author.Needs.{needs}
 use lib.ListN.{length}
+use Rattle.inline.specs.Lines.{lines-of}
+use Rattle.inline.proofs.Pairs.{lines-length, lines-many, lines-at}
 use Rattle.reader.proofs.Walking.{found, at-end, at-both, Going, going-first, going-on, going-out, going-odd, going-end}
 use Rattle.reader.proofs.check_lines.Statement.{statement}
 use Rattle.reader.proofs.check_lines.Tie as tie
 
 abbrev Inv-loop : tie.InvT-loop
-Inv-loop text starts ends n w₀ i₀ w i = Going text starts ends n w i
+Inv-loop text starts ends n w₀ i₀ w i = Going text (lines-of starts ends) n w i
 
 abbrev μ-loop : tie.MeasureT-loop
 μ-loop text starts ends n w₀ i₀ w i = n - i
@@ -22,7 +24,7 @@ loop-holds : tie.Need-loop-holds Inv-loop μ-loop
 loop-holds c =
     let args = c .before .before .before .before .args in
     let shorter = c .shorter in
-    going-first (args .text .now) (args .starts .now) (args .ends .now) (shorter .result)
+    going-first (args .text .now) (lines-of (args .starts .now) (args .ends .now)) (shorter .result)
 
 mul-walk-line : tie.Need-mul-walk-line Inv-loop μ-loop
 mul-walk-line c =
@@ -42,7 +44,12 @@ shared-slice-read-walk-line-2 c =
 
 walk-line-requires : tie.Need-walk-line-requires Inv-loop μ-loop
 walk-line-requires c κs =
-    search needs
+    let loop = c .before .before .before .loop in
+    let loop-test = c .before .before .loop-test in
+    let shorter = c .before .before .before .before .shorter in
+    let pre = c .before .before .before .before .before .before .before .before .pre in
+    let args = c .before .before .before .before .before .before .before .before .args in
+    omega (arith, loop .inv .low, loop-test .taken, shorter .ensures .0, pre .0, pre .1, lines-many (args .starts .now) (args .ends .now) .0)
 
 enum-known-next : tie.Need-enum-known-next Inv-loop μ-loop
 enum-known-next c =
@@ -61,16 +68,20 @@ returns c =
     let loop-test = c .before .before .before .before .before .loop-test in
     let enum-told = c .enum-told in
     let walk-line = c .before .before .walk-line in
-    found (args .text .now) (args .starts .now) (args .ends .now) pre _
-    (going-out (args .text .now) (args .starts .now) (args .ends .now) (shorter .result) (loop .i) (loop .w) (loop .inv) (loop-test .taken) (omega (arith, loop-test .taken, shorter .ensures .0)) (omega (arith, loop-test .taken, shorter .ensures .1)) (sym (enum-told .given .1) ∙ walk-line .ensures))
+    found (args .text .now) (lines-of (args .starts .now) (args .ends .now)) (pre .0) (pre .1) _ (going-out (args .text .now) (lines-of (args .starts .now) (args .ends .now)) (shorter .result) (loop .i) (loop .w) (loop .inv) (loop-test .taken) (omega (arith, loop-test .taken, shorter .ensures .0, lines-many (args .starts .now) (args .ends .now) .0)) _ (lines-at (args .starts .now) (args .ends .now) (loop .i) (omega (arith, loop-test .taken, shorter .ensures .0)) (omega (arith, loop-test .taken, shorter .ensures .1))) (sym (enum-told .given .1) ∙ walk-line .ensures))
 
 add-i : tie.Need-add-i Inv-loop μ-loop
 add-i c =
-    search needs
+    let loop-test = c .before .before .before .before .before .before .loop-test in
+    let shorter = c .before .before .before .before .before .before .before .before .shorter in
+    let pre = c .before .before .before .before .before .before .before .before .before .before .before .before .pre in
+    let args = c .before .before .before .before .before .before .before .before .before .before .before .before .args in
+    omega (arith, loop-test .taken, shorter .ensures .0, pre .1, lines-many (args .starts .now) (args .ends .now) .0)
 
 loop-less : tie.Need-loop-less Inv-loop μ-loop
 loop-less c =
-    search needs
+    let loop-test = c .before .before .before .before .before .before .loop-test in
+    omega (arith, loop-test .taken)
 
 loop-again : tie.Need-loop-again Inv-loop μ-loop
 loop-again c =
@@ -81,8 +92,7 @@ loop-again c =
     let loop-test = c .before .before .before .before .before .before .loop-test in
     let pre = c .before .before .before .before .before .before .before .before .before .before .before .before .pre in
     let walk-line = c .before .before .before .walk-line in
-    let k = next .given in
-    going-on (args .text .now) (args .starts .now) (args .ends .now) (shorter .result) (loop .i) (loop .w) (loop .inv) (loop-test .taken) (omega (arith, loop-test .taken, shorter .ensures .0)) (omega (arith, loop-test .taken, shorter .ensures .1)) (pre .0) (k .0 .0) (sym (k .1) ∙ walk-line .ensures)
+    let k = next .given in going-on (args .text .now) (lines-of (args .starts .now) (args .ends .now)) (shorter .result) (loop .i) (loop .w) (loop .inv) (loop-test .taken) (omega (arith, loop-test .taken, shorter .ensures .0, lines-many (args .starts .now) (args .ends .now) .0)) _ (lines-at (args .starts .now) (args .ends .now) (loop .i) (omega (arith, loop-test .taken, shorter .ensures .0)) (omega (arith, loop-test .taken, shorter .ensures .1))) (pre .0) (k .0 .0) (sym (k .1) ∙ walk-line .ensures)
 
 returns-2 : tie.Need-returns-2 Inv-loop μ-loop
 returns-2 c =
@@ -91,8 +101,7 @@ returns-2 c =
     let shorter = c .before .before .before .shorter in
     let loop = c .before .before .loop in
     let loop-test = c .before .loop-test in
-    found (args .text .now) (args .starts .now) (args .ends .now) pre _
-    (going-odd (args .text .now) (args .starts .now) (args .ends .now) (shorter .result) (loop .i) (loop .w) (loop .inv) (at-end (shorter .result) (loop .i) (length (args .starts .now)) (length (args .ends .now)) (loop .inv .within) (loop-test .left) (shorter .ensures)) (search needs) (omega (arith, loop .inv .within, shorter .ensures .0)) (omega (arith, loop .inv .within, shorter .ensures .1)))
+    found (args .text .now) (lines-of (args .starts .now) (args .ends .now)) (pre .0) (pre .1) _ (going-odd (args .text .now) (args .starts .now) (args .ends .now) (shorter .result) (loop .i) (loop .w) (loop .inv) (at-end (shorter .result) (loop .i) (length (args .starts .now)) (length (args .ends .now)) (loop .inv .within) (loop-test .left) (shorter .ensures)) (search needs) (omega (arith, loop .inv .within, shorter .ensures .0)) (omega (arith, loop .inv .within, shorter .ensures .1)))
 
 all-walked-requires : tie.Need-all-walked-requires Inv-loop μ-loop
 all-walked-requires c κs =
@@ -100,14 +109,13 @@ all-walked-requires c κs =
 
 returns-3 : tie.Need-returns-3 Inv-loop μ-loop
 returns-3 c =
-    let args = c .before .before .before .before .before .before .before .before .args in
-    let pre = c .before .before .before .before .before .before .before .before .pre in
-    let all-walked = c .all-walked in
     let shorter = c .before .before .before .before .shorter in
     let loop = c .before .before .before .loop in
+    let args = c .before .before .before .before .before .before .before .before .args in
     let loop-test = c .before .before .loop-test in
-    found (args .text .now) (args .starts .now) (args .ends .now) pre _
-    (all-walked .ensures ∙ going-end (args .text .now) (args .starts .now) (args .ends .now) (shorter .result) (loop .i) (loop .w) (loop .inv) (search needs) (at-both (shorter .result) (loop .i) (length (args .starts .now)) (length (args .ends .now)) (loop .inv .within) (loop-test .left) (shorter .ensures) (search needs)))
+    let pre = c .before .before .before .before .before .before .before .before .pre in
+    let all-walked = c .all-walked in
+    let same = at-both (shorter .result) (loop .i) (length (args .starts .now)) (length (args .ends .now)) (loop .inv .within) (loop-test .left) (shorter .ensures) (search needs) in found (args .text .now) (lines-of (args .starts .now) (args .ends .now)) (pre .0) (pre .1) _ (all-walked .ensures ∙ going-end (args .text .now) (lines-of (args .starts .now) (args .ends .now)) (shorter .result) (loop .i) (loop .w) (loop .inv) (omega (arith, same, lines-length (args .starts .now) (args .ends .now) (search needs))))
 
 pub check-lines-spec : {M : Type 1} → statement M
 check-lines-spec =

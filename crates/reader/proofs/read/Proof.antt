@@ -1,4 +1,4 @@
--- `reader::read` meets its contract, by the laws of `Asking` and `Ending` and `Calling`.
+-- `reader::read` meets its contract, by the laws of `Asking`, `Ending` and `Calling`.
 use mathlib.Core.Path.{sym, _∙_}
 use borrow.Author.Needs.{needs}
 use Rattle.inline.specs.Lines.{lines-of}
@@ -23,7 +23,7 @@ parse-lines-requires c κs =
     let args = c .before .before .before .before .before .before .before .before .before .before .before .before .before .args in
     let enum-told = c .before .before .before .enum-told in
     let questions = c .before .before .before .before .before .questions in
-    asked-passed (args .text .now) (args .starts .now) (args .ends .now) (args .reading) (args .queue .now) (args .openers .now) (sym (enum-told .given .1) ∙ questions .ensures)
+    (asked-passed (args .text .now) (lines-of (args .starts .now) (args .ends .now)) (args .reading) (args .queue .now) (args .openers .now) (sym (enum-told .given .1) ∙ questions .ensures))
 
 judge-requires : tie.Need-judge-requires
 judge-requires c κs =
@@ -31,7 +31,7 @@ judge-requires c κs =
     let enum-told = c .before .before .before .before .before .before .before .before .before .before .before .before .before .before .enum-told in
     let questions = c .before .before .before .before .before .before .before .before .before .before .before .before .before .before .before .before .questions in
     let parse-lines = c .before .before .before .before .before .before .before .before .before .before .parse-lines in
-    parsed (args .text .now) (args .starts .now) (args .ends .now) (args .reading) (args .queue .now) (args .openers .now) (args .labels .now) (asked-passed (args .text .now) (args .starts .now) (args .ends .now) (args .reading) (args .queue .now) (args .openers .now) (sym (enum-told .given .1) ∙ questions .ensures)) (parse-lines .result) ((parse-lines .last .1 .1 .1 .1 .0)) ((parse-lines .last .1 .1 .1 .1 .1 .0)) ((parse-lines .last .1 .1 .1 .1 .1 .1 .0)) (parse-lines .ensures .0) (parse-lines .ensures .1) ((parse-lines .kept .1 .1 .1 .1 .0))
+    parsed (args .text .now) (lines-of (args .starts .now) (args .ends .now)) (args .reading) (args .queue .now) (args .openers .now) (args .labels .now) (asked-passed (args .text .now) (lines-of (args .starts .now) (args .ends .now)) (args .reading) (args .queue .now) (args .openers .now) (sym (enum-told .given .1) ∙ questions .ensures)) (parse-lines .result) (parse-lines .last .1 .1 .1 .1 .0) (parse-lines .last .1 .1 .1 .1 .1 .0) (parse-lines .last .1 .1 .1 .1 .1 .1 .0) (parse-lines .ensures .0) (parse-lines .ensures .1) (parse-lines .kept .1 .1 .1 .1 .0)
 
 returns : tie.Need-returns
 returns c =
@@ -59,7 +59,7 @@ returns-2 c =
     let parse-lines = c .before .before .before .before .before .before .before .before .before .before .before .before .before .before .before .before .before .before .before .parse-lines in
     let enum-told = c .before .before .before .before .before .before .before .before .before .before .before .before .before .before .before .before .before .before .before .before .before .before .before .enum-told in
     let judge = c .before .before .before .before .before .before .before .before .judge in
-    owed (args .text .now) (lines-of (args .starts .now) (args .ends .now)) (args .reading) (lent (args .events .now) (args .queue .now) (args .openers .now) (args .labels .now)) _ (judged-all (args .text .now) (lines-of (args .starts .now) (args .ends .now)) (args .reading) (args .events .now) (args .queue .now) (args .openers .now) (args .labels .now) (questions .result) (questions .ensures) (parse-lines .result) ((parse-lines .last .1 .1 .1 .1 .0)) ((parse-lines .last .1 .1 .1 .1 .1 .0)) ((parse-lines .last .1 .1 .1 .1 .1 .1 .0)) (enum-told .given .1) (parse-lines .ensures .0) ((parse-lines .kept .1 .1 .1 .1 .0)) ((parse-lines .kept .1 .1 .1 .1 .1 .0)) ((parse-lines .kept .1 .1 .1 .1 .1 .1 .0)) _ (judge .ensures))
+    owed (args .text .now) (lines-of (args .starts .now) (args .ends .now)) (args .reading) (lent (args .events .now) (args .queue .now) (args .openers .now) (args .labels .now)) _ (judged-all (args .text .now) (lines-of (args .starts .now) (args .ends .now)) (args .reading) (args .events .now) (args .queue .now) (args .openers .now) (args .labels .now) (questions .result) (questions .ensures) (parse-lines .result) (parse-lines .last .1 .1 .1 .1 .0) (parse-lines .last .1 .1 .1 .1 .1 .0) (parse-lines .last .1 .1 .1 .1 .1 .1 .0) (enum-told .given .1) (parse-lines .ensures .0) (parse-lines .kept .1 .1 .1 .1 .0) (parse-lines .kept .1 .1 .1 .1 .1 .0) (parse-lines .kept .1 .1 .1 .1 .1 .1 .0) _ (judge .ensures))
 
 pub read-spec : {M : Type 1} → statement M
 read-spec =

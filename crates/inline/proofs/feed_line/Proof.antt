@@ -1,0 +1,54 @@
+-- `inline::feed_line` meets its contract, by the laws of `Sheets`.
+use borrow.Author.Needs.{needs}
+use Rattle.inline.proofs.Sheets.{fed-lined, fed-stands}
+use Rattle.inline.proofs.feed_line.Statement.{statement}
+use Rattle.inline.proofs.feed_line.Tie as tie
+
+margin-of-requires : tie.Need-margin-of-requires
+margin-of-requires c κs = search needs
+
+sub-line : tie.Need-sub-line
+sub-line c = search needs
+
+part-line-start : tie.Need-part-line-start
+part-line-start c = search needs
+
+part-line-end : tie.Need-part-line-end
+part-line-end c = search needs
+
+read-line-requires : tie.Need-read-line-requires
+read-line-requires c κs =
+    let args = c .before .before .before .before .before .before .before .before .before .args in
+    let margin-of = c .before .before .before .before .margin-of in
+    let pre = c .before .before .before .before .before .before .before .before .before .pre in
+    fed-lined (args .text .now) (record { start = args .start; end = args .end }) (args .reading) (args .p) (args .queue .now) (args .openers .now) (args .labels .now) (margin-of .result) (margin-of .ensures) pre
+
+same-length : tie.Need-same-length
+same-length c = search needs
+
+same-length-2 : tie.Need-same-length-2
+same-length-2 c = search needs
+
+same-length-3 : tie.Need-same-length-3
+same-length-3 c = search needs
+
+returns : tie.Need-returns
+returns c =
+    let args = c .before .before .before .before .before .before .before .before .before .before .before .before .before .before .before .before .args in
+    let margin-of = c .before .before .before .before .before .before .before .before .before .before .before .margin-of in
+    let read-line = c .before .before .before .before .before .before .read-line in
+    fed-stands (args .text .now) (record { start = args .start; end = args .end }) (args .reading) (args .p) (args .queue .now) (args .openers .now) (args .labels .now) (margin-of .result) (margin-of .ensures) (read-line .result) (read-line .last .1 .1 .1 .1 .1 .0) (read-line .last .1 .1 .1 .1 .1 .1 .0) (read-line .last .1 .1 .1 .1 .1 .1 .1 .0) (read-line .ensures)
+
+pub feed-line-spec : {M : Type 1} → statement M
+feed-line-spec =
+    tie.close
+    (tie.spec
+    margin-of-requires
+    sub-line
+    part-line-start
+    part-line-end
+    read-line-requires
+    same-length
+    same-length-2
+    same-length-3
+    returns)
