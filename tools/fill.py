@@ -1,9 +1,10 @@
 #!/usr/bin/env python3
-"""fill.py CRATE FILE [FUNCTION..]: fills proof files from answers, after `rt goals CRATE`.
+"""fill.py CRATE FILE [FUNCTION..]: fills proof files from answers, after `rt goals CRATE` (or tools/twin.py).
 
 FILE has sections '#### FUNCTION', and in each blocks '== NEED [c PARAMS]' with a proof term behind. In a term '@x' is the path into `c` of
 x at that need (as paths.py lists it), which is bound by a `let`; '@f>k' is the k-th argument of the callee f, a `&mut` slice, as the call
 left it, and '@f<k' says that its length is kept. '== imports' has use lines; '== inv' and '== measure' the bodies of a loop's."""
+import os
 import re
 import sys
 
@@ -12,7 +13,8 @@ crate, file, only = sys.argv[1], sys.argv[2], sys.argv[3:]
 
 def paths_of(function):
     """The paths into `c` at each need."""
-    text = open(f"target/goals/{crate}/Rattle.{crate}.proofs/proofs/{function}/Lts.antt").read()
+    made = f"crates/{crate}/proofs/{function}/Proof/Lts.antt"
+    text = open(made if os.path.exists(made) else f"target/goals/{crate}/Rattle.{crate}.proofs/proofs/{function}/Lts.antt").read()
     records, name = {}, None
     for line in text.split("\n"):
         if m := re.match(r"\s*(?:pub )?record (\S+)", line):

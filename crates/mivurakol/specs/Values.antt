@@ -4,12 +4,7 @@ use mathlib.Core.List.{List}
 use mathlib.Core.Bool.{true, false}
 use lib.Dec.{eqb}
 use lib.ListN.{take, drop}
-use Rattle.reading.specs.declared.Answer as reading
-use Rattle.mivurakol.specs.declared.Answer.{Answer}
 use Rattle.mivurakol.specs.declared.Part.{Part}
-
-abbrev pub answerOf : Answer → reading.Answer
-answerOf a = record { code = a .code; place = a .place; events = a .events; labels = a .labels }
 
 -- the part from a to before b of a home; no home gives an empty part of the text
 unfoldable pub partOf : ℕ → ℕ → ℕ → Part

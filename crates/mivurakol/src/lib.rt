@@ -4,19 +4,11 @@ ghost use Prim.Native.Nat.{_+_, _/_, _≤_};
 ghost use lib.ListN.{length};
 ghost use Rattle.reading.specs.Questions.{total, outcome};
 ghost use Rattle.reading.specs.Walked.{Accepted};
-ghost use Rattle.inline.specs.Lines.{lines-of};
 ghost use Rattle.reader.specs.Lookup.{homeIn, labelOf};
 ghost use Rattle.reader.specs.Telling.{lent, told};
-ghost use Rattle.mivurakol.specs.Values.{answerOf, partOf, bytesOf};
-
-// Code, place, how many events, how many label bytes.
-#[repr(C)]
-pub struct Answer {
-    pub code: u32,
-    pub place: u32,
-    pub events: u32,
-    pub labels: u32,
-}
+ghost use Rattle.mivurakol.specs.Values.{partOf, bytesOf};
+use reading::Answer;
+use reading::Line;
 
 // Bytes of the text (home 1) or of the label room (home 2).
 #[repr(C)]
@@ -26,33 +18,24 @@ pub struct Part {
     pub len: usize,
 }
 
-// `reader::read`.
+// `records::read`.
 #[no_mangle]
 pub extern "C" fn mivurakol_read(
     text: &[u8],
-    starts: &[usize],
-    ends: &[usize],
+    lines: &[Line],
     reading: u32,
     events: &mut [u32],
     queue: &mut [u32],
     openers: &mut [u32],
     labels: &mut [u8],
 ) -> Answer
-    ensures { λ r. ⌜ told (answerOf r) (now (events .exit)) (now (queue .exit)) (now (openers .exit)) (now (labels .exit)) ≡ outcome (now (text
-        .entry)) (lines-of (now (starts .entry)) (now (ends .entry))) reading (lent (now (events .entry)) (now (queue .entry)) (now (openers
-        .entry)) (now (labels .entry))) ⌝ }
-    ensures { λ r. ⌜ (r .code ≡ 0 → Accepted (now (text .entry)) (lines-of (now (starts .entry)) (now (ends .entry))) reading (lent (now (events
-        .entry)) (now (queue .entry)) (now (openers .entry)) (now (labels .entry))) (told (answerOf r) (now (events .exit)) (now (queue .exit)) (now
-        (openers .exit)) (now (labels .exit)))) ⌝ }
-    ensures { λ r. ⌜ (total (lines-of (now (starts .entry)) (now (ends .entry))) + 1 ≤ length (now (events .entry)) / 7 → r .code ≡ 9 → ⊥) ⌝ }
+    ensures { λ r. ⌜ told r (now (events .exit)) (now (queue .exit)) (now (openers .exit)) (now (labels .exit)) ≡ outcome (now (text .entry))
+        (now (lines .entry)) reading (lent (now (events .entry)) (now (queue .entry)) (now (openers .entry)) (now (labels .entry))) ⌝ }
+    ensures { λ r. ⌜ (r .code ≡ 0 → Accepted (now (text .entry)) (now (lines .entry)) reading (lent (now (events .entry)) (now (queue .entry)) (now
+        (openers .entry)) (now (labels .entry))) (told r (now (events .exit)) (now (queue .exit)) (now (openers .exit)) (now (labels .exit)))) ⌝ }
+    ensures { λ r. ⌜ (total (now (lines .entry)) + 1 ≤ length (now (events .entry)) / 7 → r .code ≡ 9 → ⊥) ⌝ }
 {
-    let a = reader::read(text, starts, ends, reading, events, queue, openers, labels);
-    Answer {
-        code: a.code,
-        place: a.place,
-        events: a.events,
-        labels: a.labels,
-    }
+    records::read(text, lines, reading, events, queue, openers, labels)
 }
 
 // `reader::label`, as a place and a length. An impossible home or range gives an empty part of the text.

@@ -130,6 +130,7 @@ pub enum Refused {
 }
 
 // The answer: code, place, how many events, how many label bytes.
+#[repr(C)]
 pub struct Answer {
     pub code: u32,
     pub place: u32,

@@ -1,0 +1,183 @@
+#!/usr/bin/env python3
+"""twin.py CRATE: the borrow checker's part for functions over a `&[S]` of a struct S, made from twins that it covers.
+
+CRATE/twin.txt:
+    struct Line 16        the struct, and its size in bytes
+    read line_at ..       functions that read the slice itself (`s[i]`, `s.len()`); one that returns an element returns S
+    pass read ..          functions that only hand a `&[S]` on, to those of `read` and `pass`
+    from records read ..  functions over `&[S]` of another crate that those of `pass` call
+    value T TERM          some value of a type T that a function of `read` or `pass` returns
+
+A twin of a function is the same source with another element type, which the borrow checker covers: `[u16; N]`, as large as S. Facts are `0 ≤ 0`, since its
+part reads no contract, and the other functions of the crate return some value. What the check generates for the twin goes, with the struct put back for
+the element, to
+    proofs/F/Proof/Lts.antt, Tie.antt     the derivation of F's body, and its needs
+    proofs/FKinds.antt, FReads.antt       F's parameters and contract as a caller's proof reads them
+and proofs/F/Proof.antt, if there is none, is the list of holes that the check prints. u16 must stand nowhere else in the crate. The crates below must be
+proved (`rt check`)."""
+import pathlib
+import re
+import shutil
+import subprocess
+import sys
+import tempfile
+
+import shrink
+
+crate = pathlib.Path(sys.argv[1]).resolve()
+root, name = crate.parent.parent, crate.name
+R = f"Rattle.{name}.proofs"
+cfg, values, other = {"read": [], "pass": []}, {}, {}
+for l in (crate / "twin.txt").read_text().split("\n"):
+    w = l.split("#")[0].split()
+    if not w:
+        continue
+    if w[0] == "struct":
+        S, size = w[1], int(w[2])
+    elif w[0] == "value":
+        values[w[1]] = " ".join(w[2:])
+    elif w[0] == "from":
+        other.update({f"{w[1]}::{f}": (w[1], f) for f in w[2:]})
+    else:
+        cfg[w[0]] += w[1:]
+N = size // 2
+# what the logic says of S: of this crate, or of the one below that has it
+kept = f"{R}.Kept" if (crate / "proofs/Kept.antt").exists() else f"Rattle.{next(iter(other.values()))[0]}.proofs.Kept"
+ours = sum(cfg.values(), [])
+deps = re.search(rf"^{name}: *(.*)$", (root / "crates.txt").read_text(), re.M).group(1).split()
+FN = re.compile(r'^(?:#\[no_mangle\]\n)?(?:pub )?(?:extern "C" )?fn (\w+)\b.*?\n\}\n', re.M | re.S)
+
+
+def plain(text):
+    """A source without ghosts, and with a fact that says nothing for each fact."""
+    text = re.sub(r"^ghost use .*?;\n", "", text, flags=re.M | re.S)
+    return re.sub(r"⌜.*?⌝", "⌜ 0 ≤ 0 ⌝", text, flags=re.S)
+
+
+def value(t):
+    """Some value of a type."""
+    t = t.strip()
+    if t in values:
+        return values[t]
+    if re.fullmatch(r"[ui](8|16|32|64|size)", t):
+        return "0"
+    if t == "bool":
+        return "false"
+    sys.exit(f"twin.txt has no value of the type {t}")
+
+
+def stub(s, called=None):
+    """A function that returns some value."""
+    head, _ = s.split("\n{\n", 1)
+    r = re.search(r"\) -> ([\w:]+)", head)
+    if called:
+        head = re.sub(r"\bfn \w+", f"fn {called}", head)
+    return head + "\n{\n    " + (value(r.group(1)) if r else "") + "\n}\n"
+
+
+def twin(kind, want):
+    src = plain((crate / "src/lib.rt").read_text())
+    bodies = {m.group(1): m.group(0) for m in FN.finditer(src)}
+    called = {g for g in re.findall(r"(?<!::)\b(\w+)\(", bodies[want].split("\n{\n", 1)[-1])} & set(bodies) - {want}
+
+    def item(m):
+        s = m.group(0)
+        if m.group(1) in called:
+            s = stub(s)
+        elif m.group(1) != want:
+            return ""
+        if kind == "read" and m.group(1) == want:
+            s = re.sub(rf"-> {S}\b", f"-> [u16; {N}]", s)
+        return s
+
+    text = FN.sub(item, src)
+    for path, (there, f) in other.items():
+        if f"{path}(" in text:
+            theirs = {m.group(1): m.group(0) for m in FN.finditer(plain((root / f"crates/{there}/src/lib.rt").read_text()))}
+            text = text.replace(f"{path}(", f"{there}_{f}(") + "\n" + stub(theirs[f], f"{there}_{f}")
+    return "ghost use Prim.Native.Nat.{_≤_};\n" + text.replace(f"&[{S}]", f"&[[u16; {N}]]")
+
+
+e16 = "(Referent.rtF (Referent.fInt Syntax.w16))"
+arr = f"(Syntax.tyArray (Syntax.tyInt Syntax.w16) {N})"
+back = [  # the element back to the struct
+    ("(λ x. x) List.[] (λ x. Unit)", "(λ x. x) Kept′.none (λ x. Unit)"),
+    (f"Init.room-arr 𝓤 H A W {e16} {N} 0 {N} Path'.refl", "Kept′.room 𝓤 H A W"),
+    (f"Copies.cArr {e16} (Copies.cRf (Referent.fInt Syntax.w16)) {N}", "Kept′.copies"),
+    (f"Whole.mem-arr 𝓤 H A W {e16} {N} ρ", "Kept′.in-mem 𝓤 H A W ρ"),
+    (f"Whole.arr-mem 𝓤 H A W {e16} {N} tt ρ", "Kept′.of-mem 𝓤 H A W ρ"),
+    (f"(Rows.arrF {e16} {N} 0)", "Kept′.held"),
+    (f"Rows.arrF {e16} {N} 0", "Kept′.held"),
+    (f"Array.rArr (Array.eInt Syntax.w16) (Array.eInt-laws Syntax.w16) {N}", "Kept′.result"),
+    *[x for a in ("Array'.Array", "Array.Array") for x in ((f"({a} {e16} {N})", "Kept′.row"), (f"{a} {e16} {N}", "Kept′.row"))],
+    (f"Syntax.tyRef (Syntax.named @) Syntax.imm {arr}", "Syntax.tyRef (Syntax.named @) Syntax.imm Kept′.behind"),
+    (arr, "Kept′.by-value"),
+    (arr[1:-1], "Kept′.by-value"),
+]
+
+
+def rx(a):
+    return r"\s+".join(re.escape(w) for w in a.split()).replace("@", r"(\d+)")
+
+
+def camel(g):
+    return "".join(w.capitalize() for w in g.split("_"))
+
+
+def restored(f, m, s):
+    """What is generated for a twin, with the struct in it, and with the names that the crate's own modules have."""
+    s = s.replace("-- the `use` lines below are this print's own: the module states none of them\n", "")
+    s = re.sub(r"^ *-- antt refused .*\n", "", s, flags=re.M)
+    s = re.sub(rf"^use {R}\.{f}\.Lts\b", f"use {R}.{f}.Proof.Lts", s, flags=re.M)
+    for there, g in other.values():
+        s = re.sub(rf"^use {R}\.{there}_{g}\.(Kinds|Reads)( as .*)?$", lambda q: f"use Rattle.{there}.proofs.{camel(g)}{q.group(1)}" + (q.group(2) or f" as {q.group(1)}"), s, flags=re.M)
+        s = re.sub(rf"^use {R}\.{there}_{g}\b", f"use Rattle.{there}.proofs.{g}", s, flags=re.M)
+        s = s.replace(f"calls-{name}·{there}-{g}".replace("_", "-"), f"calls-{there}·{g}".replace("_", "-"))
+    for k in ["Kinds", "Reads"]:
+        for h in ours:
+            s = re.sub(rf"^use {R}\.{h}\.{k}( as .*)?$", lambda q: f"use {R}.{camel(h)}{k}" + (q.group(1) or f" as {k}"), s, flags=re.M)
+    for a, b in back:
+        s = re.sub(rx(a), lambda q: b.replace("@", q.group(1)) if "@" in b else b, s)
+    if "Kept′" in s:
+        s = f"use {kept} as Kept′\n" + s
+    if "w16" in s:
+        print(f"{f}/{m}: what is left of the twin's element:", [l.strip() for l in s.split("\n") if "w16" in l][:3])
+    return shrink.shrunk(f"-- The borrow checker's part for `{name}::{f}`, made by tools/twin.py.\n" + s)
+
+
+def holes(f, log, at):
+    h = re.search(rf"/proofs/{f}/Proof\.antt with these lines[^\n]*\n((?:    .*\n|\n)*)", log)
+    if not h and not (at / "Proof.antt").exists():
+        return print(f"{f}: the check printed no holes for the twin")
+    t = re.sub(r"^    ", "", h.group(1), flags=re.M) if h else (at / "Proof.antt").read_text()
+    t = re.sub(r"^use .*\.(Reads|Lts) as .*\n|^--.*\n", "", t, flags=re.M).replace(f"proofs.{f}.Tie", f"proofs.{f}.Proof.Tie")
+    (crate / "proofs" / f / "Proof.antt").write_text("mod Lts\nmod Tie\n" + t)
+    print(f"{f}: wrote proofs/{f}/Proof.antt")
+
+
+mods = []
+for kind, f in [(k, f) for k in cfg for f in cfg[k]]:
+    tmp = pathlib.Path(tempfile.mkdtemp())
+    (tmp / name / "src").mkdir(parents=True)
+    (tmp / name / "src/lib.rt").write_text(twin(kind, f))
+    words = ["rt", "check", str(tmp / name), "-L", f"dependency={root}/target/rlib"]
+    for d in deps:
+        words += ["--extern", f"{d}={root}/target/rlib/{d}.rlib"]
+    run = lambda *a: subprocess.run([*words, *a], stdout=subprocess.PIPE, stderr=subprocess.STDOUT, text=True, env={**__import__("os").environ, "RT_CUT": "0"}).stdout
+    log = run()
+    run("--generated", str(tmp / "gen"))
+    at = tmp / "gen" / f"Rattle.{name}.proofs" / "proofs" / f
+    if not (at / "Lts.antt").exists():
+        print(f"{f}: the twin is not covered:", *[l for l in log.split("\n") if f"::{f}:" in l or "error" in l][:5], sep="\n  ")
+        continue
+    for m in ["Kinds", "Reads", "Lts", "Tie"]:
+        to = crate / "proofs" / f / "Proof" / f"{m}.antt" if m in ("Lts", "Tie") else crate / "proofs" / f"{camel(f)}{m}.antt"
+        to.parent.mkdir(parents=True, exist_ok=True)
+        to.write_text(restored(f, m, (at / f"{m}.antt").read_text()))
+    mods += [f"{camel(f)}Kinds", f"{camel(f)}Reads"]
+    if not (crate / "proofs" / f / "Proof.antt").exists():
+        holes(f, log, at)
+    shutil.rmtree(tmp)
+lib = crate / "proofs/Lib.antt"
+have = lib.read_text() if lib.exists() else ""
+lib.write_text(have + "".join(f"pub mod {m}\n" for m in mods if f"pub mod {m}\n" not in have))
