@@ -241,14 +241,14 @@ pub extern "C" fn mivurakol_cursor(pos: usize, verbatim: bool) -> State
 pub extern "C" fn mivurakol_peek(src: &[u8], s: State) -> Step
     ensures { λ r. ⌜ r ≡ stepOf (peekOf (now (src .entry)) (cursorOf s)) ⌝ }
 {
-    step_of(cursor_of(s).peek(src))
+    step_of(lexer::peek_token(src, cursor_of(s)))
 }
 
 #[no_mangle]
 pub extern "C" fn mivurakol_next(src: &[u8], s: State) -> Step
     ensures { λ r. ⌜ r ≡ stepOf (nextOf (now (src .entry)) (cursorOf s)) ⌝ }
 {
-    step_of(cursor_of(s).next(src))
+    step_of(lexer::next_token(src, cursor_of(s)))
 }
 
 fn scanned_of(a: Ahead) -> Scanned

@@ -109,7 +109,7 @@ fn write_tokens(line: &[u8]) {
     let mut left = line.len();
     while 0 < left {
         let start = c.pos;
-        let r = c.next(line);
+        let r = lexer::next_token(line, c);
         let found = r.token;
         let Next::Some(t) = found else {
             return;

@@ -1,4 +1,4 @@
--- `exports::mivurakol_peek` meets its contract: what `peek` answers, as numbers.
+-- `exports::mivurakol_peek` meets its contract: what `peek_token` answers, as numbers.
 use mathlib.Core.Path.{ap, _∙_}
 use Rattle.lex.specs.declared.lex.Lexed.{Lexed}
 use Rattle.lex.specs.Lexer.{peekOf}
@@ -10,15 +10,15 @@ use Rattle.exports.proofs.mivurakol_peek.Tie as tie
 cursor-of-requires : tie.Need-cursor-of-requires
 cursor-of-requires c κs = search needs
 
-peek-requires : tie.Need-peek-requires
-peek-requires c κs = search needs
+peek-token-requires : tie.Need-peek-token-requires
+peek-token-requires c κs = search needs
 
 step-of-requires : tie.Need-step-of-requires
 step-of-requires c κs = search needs
 
 returns : tie.Need-returns
-returns c = c .step-of .ensures ∙ ap (λ (l : Lexed). stepOf l) (c .before .peek .ensures ∙ ap (peekOf _) (c .before .before .cursor-of .ensures))
+returns c = c .step-of .ensures ∙ ap (λ (l : Lexed). stepOf l) (c .before .peek-token .ensures ∙ ap (peekOf _) (c .before .before .cursor-of .ensures))
 
 pub mivurakol-peek-spec : {M : Type 1} → statement M
 mivurakol-peek-spec =
-    tie.close (tie.spec cursor-of-requires peek-requires step-of-requires returns)
+    tie.close (tie.spec cursor-of-requires peek-token-requires step-of-requires returns)

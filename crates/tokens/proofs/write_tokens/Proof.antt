@@ -15,8 +15,8 @@ new-requires c κs = search needs
 loop-holds : tie.Need-loop-holds Inv-loop μ-loop
 loop-holds c = search needs
 
-next-requires : tie.Need-next-requires Inv-loop μ-loop
-next-requires c κs = search needs
+next-token-requires : tie.Need-next-token-requires Inv-loop μ-loop
+next-token-requires c κs = search needs
 
 enum-known-found : tie.Need-enum-known-found Inv-loop μ-loop
 enum-known-found c = search needs
@@ -50,7 +50,7 @@ write-tokens-spec =
     μ-loop
     new-requires
     loop-holds
-    next-requires
+    next-token-requires
     enum-known-found
     enum-told
     returns
