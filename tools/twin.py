@@ -133,6 +133,7 @@ def restored(f, m, s):
         s = re.sub(rf"^use {R}\.{there}_{g}\.(Kinds|Reads)( as .*)?$", lambda q: f"use Rattle.{there}.proofs.{camel(g)}{q.group(1)}" + (q.group(2) or f" as {q.group(1)}"), s, flags=re.M)
         s = re.sub(rf"^use {R}\.{there}_{g}\b", f"use Rattle.{there}.proofs.{g}", s, flags=re.M)
         s = s.replace(f"calls-{name}·{there}-{g}".replace("_", "-"), f"calls-{there}·{g}".replace("_", "-"))
+        s = s.replace(f'"{name}::{there}_{g}"', f'"{there}::{g}"')
     for k in ["Kinds", "Reads"]:
         for h in ours:
             s = re.sub(rf"^use {R}\.{h}\.{k}( as .*)?$", lambda q: f"use {R}.{camel(h)}{k}" + (q.group(1) or f" as {k}"), s, flags=re.M)
