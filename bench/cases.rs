@@ -1,5 +1,7 @@
 //! The texts that are read: the same in every run.
 
+use crate::mivurakol::Line;
+
 /// What is read together: a text, and the sheets in it, each the lines from their starts to before their ends.
 pub struct Case {
     pub name: &'static str,
@@ -9,8 +11,7 @@ pub struct Case {
 
 /// With the sum of the line lengths, and the label bytes that are built.
 pub struct Sheet {
-    pub starts: Vec<usize>,
-    pub ends: Vec<usize>,
+    pub lines: Vec<Line>,
     pub bytes: usize,
     pub labels: usize,
 }
@@ -77,9 +78,9 @@ const WORDS: &[&str] = &[
 ];
 
 fn sheet(ranges: impl Iterator<Item = (usize, usize)>) -> Sheet {
-    let (starts, ends): (Vec<_>, Vec<_>) = ranges.unzip();
-    let bytes = ends.iter().sum::<usize>() - starts.iter().sum::<usize>();
-    Sheet { starts, ends, bytes, labels: 0 }
+    let lines: Vec<Line> = ranges.map(|(start, end)| Line { start, end }).collect();
+    let bytes = lines.iter().map(|l| l.end - l.start).sum();
+    Sheet { lines, bytes, labels: 0 }
 }
 
 /// One sheet: each line with its newline.

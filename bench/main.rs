@@ -53,9 +53,9 @@ impl Rooms {
 
 fn parser<'t>(text: &'t str, sheet: &Sheet) -> inline::Parser<'t> {
     let mut parser = inline::Parser::new(text);
-    let last = sheet.starts.len() - 1;
-    for i in 0..=last {
-        parser.feed_line(sheet.starts[i]..sheet.ends[i], i == last);
+    let last = sheet.lines.len() - 1;
+    for (i, line) in sheet.lines.iter().enumerate() {
+        parser.feed_line(line.start..line.end, i == last);
     }
     parser
 }
@@ -69,7 +69,7 @@ fn theirs(case: &Case) {
 }
 
 fn read<'r>(case: &Case, sheet: &Sheet, lent: &'r mut mivurakol::Rooms) -> (mivurakol::Answer, &'r [[u32; 7]]) {
-    let answer = mivurakol::read(case.text.as_bytes(), &sheet.starts, &sheet.ends, 0, lent);
+    let answer = mivurakol::read(case.text.as_bytes(), &sheet.lines, 0, lent);
     (answer, &lent.events.as_chunks().0[..answer.events as usize])
 }
 

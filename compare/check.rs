@@ -3,8 +3,9 @@
 use crate::expect::Expect;
 use crate::laws::Laws;
 use crate::lending::{Lent, Sort, SURE};
-use crate::mivurakol::{self, Answer};
+use crate::mivurakol::{self, Answer, Line};
 use crate::model::Sizes;
+use crate::ours;
 use crate::rooms::Rooms;
 use crate::sheet::{ascii, Sheet};
 use std::time::{Duration, Instant};
@@ -51,6 +52,10 @@ pub struct Checker {
     pub expect: Expect,
     /// The sheet before it is lent.
     before: Sheet,
+    /// Its lines, as records.
+    lines: Vec<Line>,
+    /// How many calls there were, on records and on starts and ends.
+    pub calls: [u64; 2],
     laws: Laws,
     /// How many lendings of a sort there were, in each reading.
     turns: [[usize; 4]; 2],
@@ -64,6 +69,8 @@ impl Checker {
             rooms: Rooms::new(seed),
             expect: Expect::new(),
             before: Sheet::default(),
+            lines: Vec::new(),
+            calls: [0; 2],
             laws: Laws::default(),
             turns: [[0; 4]; 2],
             sheets: 0,
@@ -71,17 +78,32 @@ impl Checker {
         }
     }
 
-    /// One call of what was asked about: the answer, and every number of every room.
+    /// What was asked about, through both entries: on line records, if there are as many ends as starts, and on starts and ends.
     pub fn call(&mut self, sheet: &Sheet, reading: u32, sizes: &Sizes) -> Result<Answer, String> {
         let expected = self.expect.answer(sheet, reading, sizes);
         self.before.copy(sheet);
-        let mut lent = self.rooms.lend(sizes);
-        let answer = mivurakol::read(&sheet.text, &sheet.starts, &sheet.ends, reading, &mut lent);
-        if *sheet != self.before {
-            return Err("the sheet is written to".to_string());
+        if sheet.starts.len() == sheet.ends.len() {
+            let mut lines = std::mem::take(&mut self.lines);
+            lines.clear();
+            lines.extend(sheet.lines().map(|(start, end)| Line { start, end }));
+            let answer = mivurakol::read(&sheet.text, &lines, reading, &mut self.rooms.lend(sizes));
+            let kept = lines.iter().map(|l| (l.start, l.end)).eq(sheet.lines());
+            self.lines = lines;
+            self.calls[0] += 1;
+            self.wrong(sheet, kept, &expected, &answer).map_or(Ok(()), |wrong| Err(format!("on records: {wrong}")))?;
+        }
+        let answer = ours::read(&sheet.text, &sheet.starts, &sheet.ends, reading, &mut self.rooms.lend(sizes));
+        self.calls[1] += 1;
+        self.wrong(sheet, true, &expected, &answer).map_or(Ok(expected), Err)
+    }
+
+    /// What is not as expected after one call: the sheet, the answer, or a number of a room.
+    fn wrong(&mut self, sheet: &Sheet, kept: bool, expected: &Answer, answer: &Answer) -> Option<String> {
+        if *sheet != self.before || !kept {
+            return Some("the sheet is written to".to_string());
         }
         if answer != expected {
-            return Err(format!("{expected:?} is expected, the answer is {answer:?}"));
+            return Some(format!("{expected:?} is expected, the answer is {answer:?}"));
         }
         if expected.code == 0 && !self.expect.same_text {
             for b in &mut self.rooms.labels.room_mut()[..expected.labels as usize] {
@@ -89,10 +111,7 @@ impl Checker {
             }
         }
         let said = &self.expect.said;
-        match self.rooms.wrong(expected.code, &said.events, &said.labels) {
-            Some(wrong) => Err(format!("{wrong} after {}", expected.code)),
-            None => Ok(expected),
-        }
+        self.rooms.wrong(expected.code, &said.events, &said.labels).map(|wrong| format!("{wrong} after {}", expected.code))
     }
 
     /// The event room and the label room, as the last call left them.

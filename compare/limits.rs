@@ -1,7 +1,7 @@
 //! Every limit: rooms of all sizes, the largest text and line list, line lists that are none, the longest label room.
 
 use crate::check::Checker;
-use crate::mivurakol::{self, Answer};
+use crate::mivurakol::{self, Answer, Line};
 use crate::model::{Sizes, LABELS, MOST};
 use crate::random::strings;
 use crate::sheet::Sheet;
@@ -230,7 +230,8 @@ fn fills(labels: &mut [u8], over: bool) -> bool {
     let n = sheet.text.len();
     let (mut events, mut queue, mut openers) = (vec![0x55; 7 * (n + 1)], vec![0x55; 8 * (2 * n + 1)], vec![0x55; 4 * n]);
     let mut rooms = mivurakol::Rooms { events: &mut events, queue: &mut queue, openers: &mut openers, labels };
-    let answer = mivurakol::read(&sheet.text, &sheet.starts, &sheet.ends, 0, &mut rooms);
+    let lines: Vec<Line> = sheet.lines().map(|(start, end)| Line { start, end }).collect();
+    let answer = mivurakol::read(&sheet.text, &lines, 0, &mut rooms);
     // The outermost link is all that is handed out.
     let home = [2, (LABELS - inner - 4 * (links - 1)) as u32, LABELS as u32, links as u32 - 1];
     let list = [[46, 0, 1], [78, 1, n as u32]].map(|e| [e.as_slice(), &home].concat()).concat();

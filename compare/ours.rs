@@ -1,4 +1,6 @@
-//! Our leaves, from the static library of `crates/exports`, behind safe functions.
+//! Our leaves, and the reader on starts and ends, from the static library of `crates/exports`, behind safe functions.
+
+use crate::mivurakol::{Answer, Rooms};
 
 #[repr(C)]
 #[derive(Clone, Copy)]
@@ -44,6 +46,48 @@ extern "C" {
     fn mivurakol_raw_format(src: *const u8, len: usize, from: usize) -> Scanned;
     fn mivurakol_hyphens(len: usize) -> Counts;
     fn mivurakol_periods(len: usize) -> Counts;
+    fn mivurakol_read_numbers(
+        text: *const u8,
+        text_len: usize,
+        starts: *const usize,
+        starts_len: usize,
+        ends: *const usize,
+        ends_len: usize,
+        reading: u32,
+        events: *mut u32,
+        events_len: usize,
+        queue: *mut u32,
+        queue_len: usize,
+        openers: *mut u32,
+        openers_len: usize,
+        labels: *mut u8,
+        labels_len: usize,
+    ) -> Answer;
+}
+
+/// Reads a sheet: line i runs from `starts[i]` to before `ends[i]`.
+pub fn read(text: &[u8], starts: &[usize], ends: &[usize], reading: u32, rooms: &mut Rooms) -> Answer {
+    let Rooms { events, queue, openers, labels } = rooms;
+    // SAFETY: each pointer is that of a slice, with its length, and the four that are written to are borrowed mutably.
+    unsafe {
+        mivurakol_read_numbers(
+            text.as_ptr(),
+            text.len(),
+            starts.as_ptr(),
+            starts.len(),
+            ends.as_ptr(),
+            ends.len(),
+            reading,
+            events.as_mut_ptr(),
+            events.len(),
+            queue.as_mut_ptr(),
+            queue.len(),
+            openers.as_mut_ptr(),
+            openers.len(),
+            labels.as_mut_ptr(),
+            labels.len(),
+        )
+    }
 }
 
 pub struct Cursor(State);

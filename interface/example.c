@@ -5,8 +5,7 @@
 
 /* `> ` between the lines belongs to no line. */
 static const char cell[] = "*12* [R-07](left\n> .txt) [door][]";
-static const size_t starts[] = {0, 19};
-static const size_t ends[] = {17, sizeof cell - 1};
+static const mivurakol_line lines[] = {{0, 17}, {19, sizeof cell - 1}};
 
 enum { N = sizeof cell };
 
@@ -26,7 +25,7 @@ int main(void)
 {
     const uint8_t *text = (const uint8_t *)cell;
     mivurakol_answer a = mivurakol_read(
-        text, sizeof cell - 1, starts, 2, ends, 2, 0,
+        text, sizeof cell - 1, lines, 2, 0,
         events, sizeof events / sizeof *events, queue, sizeof queue / sizeof *queue,
         openers, sizeof openers / sizeof *openers, labels, sizeof labels);
     uint32_t i;

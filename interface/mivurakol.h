@@ -1,6 +1,6 @@
 /* The reader of Djot inline text, from C: the static library of crates/mivurakol.
  *
- * No pointer may be null, also for a length of 0. The four rooms lie apart from one another and from the text, starts and ends. Any
+ * No pointer may be null, also for a length of 0. The four rooms lie apart from one another and from the text and the lines. Any
  * lengths and any contents are answered; nothing outside the rooms is written, and nothing is kept after the call.
  */
 #ifndef MIVURAKOL_H
@@ -38,13 +38,17 @@ typedef struct {
     uint32_t labels; /* bytes used of the label room */
 } mivurakol_answer;
 
-/* Reads the lines of a text: line i runs from starts[i] to before ends[i]. starts_len and ends_len should be equal: a start without an end, or
- * an end without a start, is refused as a line (3). Reading 0 is the Rust's, 1 the strict one. An event is seven numbers: kind, span start,
- * span end, home, home start, home end, link number. */
+/* A line of a text: from start to before end. */
+typedef struct {
+    size_t start;
+    size_t end;
+} mivurakol_line;
+
+/* Reads the lines of a text. Reading 0 is the Rust's, 1 the strict one. An event is seven numbers: kind, span start, span end, home, home start,
+ * home end, link number. */
 mivurakol_answer mivurakol_read(
     const uint8_t *text, size_t text_len,
-    const size_t *starts, size_t starts_len,
-    const size_t *ends, size_t ends_len,
+    const mivurakol_line *lines, size_t lines_len,
     uint32_t reading,
     uint32_t *events, size_t events_len,
     uint32_t *queue, size_t queue_len,

@@ -14,6 +14,14 @@ pub struct Answer {
     pub labels: u32,
 }
 
+/// A line of the text: from start to before end.
+#[repr(C)]
+#[derive(Clone, Copy, Debug, Default, PartialEq, Eq)]
+pub struct Line {
+    pub start: usize,
+    pub end: usize,
+}
+
 /// What is lent for writing: seven numbers an event, eight a record of the queue, four an opener, and bytes for labels.
 pub struct Rooms<'a> {
     pub events: &'a mut [u32],
@@ -34,10 +42,8 @@ extern "C" {
     fn mivurakol_read(
         text: *const u8,
         text_len: usize,
-        starts: *const usize,
-        starts_len: usize,
-        ends: *const usize,
-        ends_len: usize,
+        lines: *const Line,
+        lines_len: usize,
         reading: u32,
         events: *mut u32,
         events_len: usize,
@@ -51,8 +57,8 @@ extern "C" {
     fn mivurakol_label(text: *const u8, text_len: usize, labels: *const u8, labels_len: usize, home: u32, start: u32, end: u32) -> Part;
 }
 
-/// Reads a sheet: line i runs from `starts[i]` to before `ends[i]`.
-pub fn read(text: &[u8], starts: &[usize], ends: &[usize], reading: u32, rooms: &mut Rooms) -> Answer {
+/// Reads a sheet: the lines of a text.
+pub fn read(text: &[u8], lines: &[Line], reading: u32, rooms: &mut Rooms) -> Answer {
     let Rooms { events, queue, openers, labels } = rooms;
     // SAFETY: each pointer is that of a slice, with its length. The four that are written to are borrowed mutably, so no two slices overlap
     // where one of them is written to.
@@ -60,10 +66,8 @@ pub fn read(text: &[u8], starts: &[usize], ends: &[usize], reading: u32, rooms: 
         mivurakol_read(
             text.as_ptr(),
             text.len(),
-            starts.as_ptr(),
-            starts.len(),
-            ends.as_ptr(),
-            ends.len(),
+            lines.as_ptr(),
+            lines.len(),
             reading,
             events.as_mut_ptr(),
             events.len(),

@@ -1,10 +1,15 @@
-// The leaves under C names, with tokens and cursors as numbers: what the comparison with the Rust calls.
+// What the comparison with the Rust calls under C names, besides the C interface: the leaves, with tokens and cursors as numbers, and the reader on two
+// number slices.
 ghost use mathlib.Core.Path.{_≡_};
-ghost use Prim.Native.Nat.{_<_};
-ghost use lib.ListN.{drop};
+ghost use Prim.Native.Nat.{_+_, _/_, _≤_, _<_};
+ghost use lib.ListN.{length, drop};
 ghost use Rattle.lex.specs.Lexer.{freshOf, peekOf, nextOf};
 ghost use Rattle.scan.specs.Scans.{autolinkOf, symbolOf, footnoteOf, rawFormatOf};
 ghost use Rattle.dash.specs.Dashes.{dashesOf, dotsOf};
+ghost use Rattle.reading.specs.Questions.{total, outcome};
+ghost use Rattle.reading.specs.Walked.{Accepted};
+ghost use Rattle.inline.specs.Lines.{lines-of};
+ghost use Rattle.reader.specs.Telling.{lent, told};
 ghost use Rattle.exports.specs.Numbers.{delimiterNumber, symbolNumber, sequenceNumber, kindNumber, markOf, tokenOf, cursorOf, stateOf, stepOf};
 ghost use Rattle.exports.specs.Numbers.{scannedOf, dashCounts, dotCounts};
 use lex::Cursor;
@@ -15,6 +20,7 @@ use lex::Next;
 use lex::Sequence;
 use lex::Symbol;
 use lex::Token;
+use reading::Answer;
 use scan::Ahead;
 
 // The kinds by their numbers.
@@ -314,4 +320,27 @@ pub extern "C" fn mivurakol_periods(len: usize) -> Counts
         first: d.ellipses,
         second: d.rest,
     }
+}
+
+// `reader::read`.
+#[no_mangle]
+pub extern "C" fn mivurakol_read_numbers(
+    text: &[u8],
+    starts: &[usize],
+    ends: &[usize],
+    reading: u32,
+    events: &mut [u32],
+    queue: &mut [u32],
+    openers: &mut [u32],
+    labels: &mut [u8],
+) -> Answer
+    ensures { λ r. ⌜ told r (now (events .exit)) (now (queue .exit)) (now (openers .exit)) (now (labels .exit)) ≡ outcome (now (text .entry))
+        (lines-of (now (starts .entry)) (now (ends .entry))) reading (lent (now (events .entry)) (now (queue .entry)) (now (openers .entry)) (now
+        (labels .entry))) ⌝ }
+    ensures { λ r. ⌜ (r .code ≡ 0 → Accepted (now (text .entry)) (lines-of (now (starts .entry)) (now (ends .entry))) reading (lent (now (events
+        .entry)) (now (queue .entry)) (now (openers .entry)) (now (labels .entry))) (told r (now (events .exit)) (now (queue .exit)) (now (openers
+        .exit)) (now (labels .exit)))) ⌝ }
+    ensures { λ r. ⌜ (total (lines-of (now (starts .entry)) (now (ends .entry))) + 1 ≤ length (now (events .entry)) / 7 → r .code ≡ 9 → ⊥) ⌝ }
+{
+    reader::read(text, starts, ends, reading, events, queue, openers, labels)
 }
