@@ -32,10 +32,11 @@ def rank(use):
 def tidy(file):
     text = re.sub(r"(?m)^-- src/\S+:\d+:\d+\n", "", open(file).read())
     head = re.match(r"(?:--.*\n)*", text).group(0)
-    m = re.match(r"(?:use .*\n|\n)*", text[len(head):])
+    m = re.match(r"(?:(?:use|mod) .*\n|\n)*", text[len(head):])
     body = text[len(head) + m.end():]
     code, entries = re.sub(r"(?m)--.*$", "", body), {}
-    for use in [line for line in m.group(0).split("\n") if line]:
+    mods = [line for line in m.group(0).split("\n") if line.startswith("mod ")]
+    for use in [line for line in m.group(0).split("\n") if line.startswith("use ")]:
         if n := re.match(r"use (.*)\.\{(.*)\}$", use):
             for name in n.group(2).split(", "):
                 if uses(name.split(" as ")[-1], code) and name not in entries.setdefault(n.group(1), []):
@@ -44,10 +45,10 @@ def tidy(file):
             entries[use] = None
     out = sorted([line for key, names in entries.items() for line in ([key] if names is None else lines_of(key, names))], key=rank)
     if (m := re.search(r"crates/([^/]+)/proofs/(.*)/Proof.antt", file)) and not head:
-        laws = dict.fromkeys(re.findall(rf"use Rattle\.{m.group(1)}\.proofs\.([A-Z]\w*)\.", "\n".join(out)))
+        laws = dict.fromkeys(re.findall(r"use Rattle·\w+(?:·proofs\.proofs|\.proofs)\.([A-Z]\w*)\.", "\n".join(out)))
         by = ", by the laws of " + " and ".join(f"`{law}`" for law in laws) if laws else ""
         head = f"-- `{m.group(1)}::{m.group(2).replace('/', '::')}` meets its contract{by}.\n"
-    open(file, "w").write(head + "\n".join(out) + "\n\n" + body)
+    open(file, "w").write(head + "\n".join(mods + out) + "\n\n" + body)
 
 
 for file in sys.argv[1:]:

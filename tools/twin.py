@@ -22,7 +22,7 @@ import subprocess
 import sys
 import tempfile
 
-import shrink
+import fold
 
 crate = pathlib.Path(sys.argv[1]).resolve()
 root, name = crate.parent.parent, crate.name
@@ -143,7 +143,7 @@ def restored(f, m, s):
         s = f"use {kept} as Kept′\n" + s
     if "w16" in s:
         print(f"{f}/{m}: what is left of the twin's element:", [l.strip() for l in s.split("\n") if "w16" in l][:3])
-    return shrink.shrunk(f"-- The borrow checker's part for `{name}::{f}`, made by tools/twin.py.\n" + s)
+    return fold.folded(f"-- The borrow checker's part for `{name}::{f}`, made by tools/twin.py.\n" + s)
 
 
 def holes(f, log, at):

@@ -15,14 +15,28 @@ use denote.Exit
 use mathlib.Core.List
 use mathlib.Core.Path as Path'
 use mir.Syntax
+use mathlib.Core.List.{[], _∷_}
+
 abbrev pub ps : List.List (Kinds.PK 2)
-ps = List._∷_ (ShrSlice.pShrS (Referent.rtF (Referent.fInt Syntax.w8)) 0 tt) (List._∷_ (ShrSlice.pShrS Kept′.row 1 tt) List.[])
+ps = ShrSlice.pShrS (Referent.rtF (Referent.fInt Syntax.w8)) 0 tt ∷ ShrSlice.pShrS Kept′.row 1 tt ∷ []
 
 abbrev pub r : Kinds.RK 2
-r = Value.rVal record { ty = Declared.row Lines.the-type; one = Path'.refl; val = Laws'.val Lines.the-type Laws.the-laws; tells = Laws'.tells Lines.the-type
-    Laws.the-laws; still = Laws'.still Lines.the-type Laws.the-copy Exit.yes; row = Rows.whole (Declared.row Lines.the-type); rd = λ x. x; mk = λ x. x;
-
-} λ M 𝓤 H A W. record { copies = Laws'.copy Lines.the-type Laws.the-copy 𝓤 H A W; lawful = Laws'.lawful Lines.the-type Laws.the-laws 𝓤 H A W tt; makes = Laws'.makes
-    Lines.the-type Laws.the-plain 𝓤 H A; in-mem = Local.mem-whole 𝓤 H A W (Declared.row Lines.the-type); of-mem = Local.whole-mem 𝓤 H A W (Declared.row Lines.the-type);
-
+r = Value.rVal record {
+  ty = Declared.row Lines.the-type;
+  one = Path'.refl;
+  val = Laws'.val Lines.the-type Laws.the-laws;
+  tells = Laws'.tells Lines.the-type Laws.the-laws;
+  still =
+      Laws'.still Lines.the-type Laws.the-copy Exit.yes;
+  row = Rows.whole (Declared.row Lines.the-type);
+  rd = λ x. x;
+  mk = λ x. x;
+} λ M 𝓤 H A W. record {
+  copies = Laws'.copy
+      Lines.the-type Laws.the-copy 𝓤 H A W;
+  lawful = Laws'.lawful Lines.the-type Laws.the-laws 𝓤 H A W tt;
+  makes = Laws'.makes Lines.the-type Laws.the-plain 𝓤 H A;
+  in-mem =
+      Local.mem-whole 𝓤 H A W (Declared.row Lines.the-type);
+  of-mem = Local.whole-mem 𝓤 H A W (Declared.row Lines.the-type);
 }

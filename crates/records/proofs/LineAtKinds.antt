@@ -7,9 +7,10 @@ use borrow.Table.Referent
 use denote.Array as Array'
 use mathlib.Core.List
 use mir.Syntax
+use mathlib.Core.List.{[], _∷_}
+
 abbrev pub ps : List.List (Kinds.PK 1)
-ps = List._∷_ (ShrSlice.pShrS Kept′.row 0 tt) (List._∷_ (Kinds.pNum Syntax.w64) List.[])
+ps = ShrSlice.pShrS Kept′.row 0 tt ∷ Kinds.pNum Syntax.w64 ∷ []
 
 abbrev pub r : Kinds.RK 1
 r = Kept′.result
-

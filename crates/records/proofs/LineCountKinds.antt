@@ -6,9 +6,10 @@ use borrow.Table.Referent
 use denote.Array
 use mathlib.Core.List
 use mir.Syntax
+use mathlib.Core.List.{[], _∷_}
+
 abbrev pub ps : List.List (Kinds.PK 1)
-ps = List._∷_ (ShrSlice.pShrS Kept′.row 0 tt) List.[]
+ps = ShrSlice.pShrS Kept′.row 0 tt ∷ []
 
 abbrev pub r : Kinds.RK 1
 r = Kinds.rNum Syntax.w64
-

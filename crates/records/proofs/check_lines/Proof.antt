@@ -1,10 +1,11 @@
+-- `records::check_lines` meets its contract, by the laws of `Walking`.
+mod Lts
+mod Tie
 use mathlib.Core.Path.{sym, _∙_}
 use Prim.Native.Nat.{_-_}
 use native.Mathlib.Omega.{arith}
 use borrow.Author.Needs.{needs}
 use Rattle.reader.proofs.Walking.{found, Going, going-first, going-on, going-out, going-end}
-mod Lts
-mod Tie
 use Rattle.records.proofs.check_lines.Statement.{statement}
 use Rattle.records.proofs.check_lines.Proof.Tie as tie
 

@@ -1,7 +1,8 @@
-use native.Mathlib.Omega.{arith}
-use mathlib.Core.Path.{refl}
+-- `records::line_at` meets its contract.
 mod Lts
 mod Tie
+use mathlib.Core.Path.{refl}
+use native.Mathlib.Omega.{arith}
 use borrow.Author.Needs.{needs}
 use Rattle.records.proofs.line_at.Statement.{statement}
 use Rattle.records.proofs.line_at.Proof.Tie as tie

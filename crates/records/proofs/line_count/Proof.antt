@@ -1,7 +1,7 @@
-use mathlib.Core.Path.{refl}
+-- `records::line_count` meets its contract.
 mod Lts
 mod Tie
-use borrow.Author.Needs.{needs}
+use mathlib.Core.Path.{refl}
 use Rattle.records.proofs.line_count.Statement.{statement}
 use Rattle.records.proofs.line_count.Proof.Tie as tie
 

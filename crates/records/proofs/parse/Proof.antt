@@ -1,9 +1,10 @@
+-- `records::parse` meets its contract, by the laws of `Sheets`.
+mod Lts
+mod Tie
 use Prim.Native.Nat.{_-_}
 use native.Mathlib.Omega.{arith}
 use borrow.Author.Needs.{needs}
 use Rattle.inline.proofs.Sheets.{Head, head-first, head-fed, head-next, end-small, end-room, end-closing, head-last}
-mod Lts
-mod Tie
 use Rattle.records.proofs.parse.Statement.{statement}
 use Rattle.records.proofs.parse.Proof.Tie as tie
 

@@ -1,9 +1,10 @@
-use mathlib.Core.Path.{refl, sym}
-use lib.Seq.{length-take-le}
-use Rattle.reader.proofs.Ending.{room-counts, sheeted, stood}
+-- `records::parse_lines` meets its contract, by the laws of `Ending`.
 mod Lts
 mod Tie
+use mathlib.Core.Path.{refl, sym}
 use borrow.Author.Needs.{needs}
+use lib.Seq.{length-take-le}
+use Rattle.reader.proofs.Ending.{room-counts, sheeted, stood}
 use Rattle.records.proofs.parse_lines.Statement.{statement}
 use Rattle.records.proofs.parse_lines.Proof.Tie as tie
 

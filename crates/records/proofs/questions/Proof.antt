@@ -1,8 +1,9 @@
-use native.Mathlib.Omega.{arith}
-use Rattle.reader.proofs.Asking.{limit-kept, asked-limit, asked-lines}
+-- `records::questions` meets its contract, by the laws of `Asking`.
 mod Lts
 mod Tie
+use native.Mathlib.Omega.{arith}
 use borrow.Author.Needs.{needs}
+use Rattle.reader.proofs.Asking.{limit-kept, asked-limit, asked-lines}
 use Rattle.records.proofs.questions.Statement.{statement}
 use Rattle.records.proofs.questions.Proof.Tie as tie
 

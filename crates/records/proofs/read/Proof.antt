@@ -1,11 +1,12 @@
+-- `records::read` meets its contract, by the laws of `Asking`, `Ending` and `Calling`.
+mod Lts
+mod Tie
 use mathlib.Core.Path.{sym, _∙_}
+use borrow.Author.Needs.{needs}
 use Rattle.reader.specs.Telling.{lent}
 use Rattle.reader.proofs.Asking.{asked-passed}
 use Rattle.reader.proofs.Ending.{parsed}
 use Rattle.reader.proofs.Calling.{owed, refused-early, judged-all}
-mod Lts
-mod Tie
-use borrow.Author.Needs.{needs}
 use Rattle.records.proofs.read.Statement.{statement}
 use Rattle.records.proofs.read.Proof.Tie as tie
 
