@@ -71,7 +71,7 @@ pub fn print(seed: u64) {
     println!("-- Answers of the Rust (`compare/run rows`): sheets of one line and of many, touching or with gaps, in both readings.");
     println!("use mathlib.Core.List.{{List, [], _∷_}}");
     println!("use Rattle.reading.specs.Events.{{event, homed, in-text}}");
-    println!("use Rattle.reading.proofs.Sheets.{{Row, span, at-home, given, refused-at}}");
+    println!("use Rattle.reading.specs.Sheets.{{Row, span, at-home, given, refused-at}}");
     println!();
     println!("unfoldable pub sampled : List Row");
     println!("sampled =");

@@ -1,5 +1,5 @@
 #!/usr/bin/env python3
-"""twin.py CRATE: the borrow checker's part for functions over a `&[S]` of a struct S, made from twins that it covers.
+"""twin.py CRATE [F..]: the borrow checker's part for functions over a `&[S]` of a struct S, all or some, made from twins that it covers.
 
 CRATE/twin.txt:
     struct Line 16        the struct, and its size in bytes
@@ -157,7 +157,7 @@ def holes(f, log, at):
 
 
 mods = []
-for kind, f in [(k, f) for k in cfg for f in cfg[k]]:
+for kind, f in [(k, f) for k in cfg for f in cfg[k] if f in (sys.argv[2:] or ours)]:
     tmp = pathlib.Path(tempfile.mkdtemp())
     (tmp / name / "src").mkdir(parents=True)
     (tmp / name / "src/lib.rt").write_text(twin(kind, f))

@@ -29,9 +29,10 @@ use Rattle.reading.specs.declared.Inside.the-variants as inside
 use Rattle.reading.specs.Events.{Home, event, nowhere, in-text, becomes, shorter, exit-of, enter, str, raw-format}
 use Rattle.reading.specs.Machine.{View, Rules, State, Here, amend, amend-last, put}
 use Rattle.reading.specs.Tokens.{role-of, is-format}
-use Rattle.reading.specs.Verbatim.{flagged, taken, opened-as, opens-verbatim, closes, kept, cut, nothing, format-ahead, formatted, closed-with}
-use Rattle.reading.specs.Verbatim.{closes-verbatim, all-blank, bytes-of, skips, content, blank-content, in-verbatim, span-of, drops-at}
+use Rattle.reading.specs.Verbatim.{flagged, taken, opened-as, opens-verbatim, closes, kept, nothing, format-ahead, formatted, closed-with}
+use Rattle.reading.specs.Verbatim.{closes-verbatim, all-blank, bytes-of, skips, content, blank-content, in-verbatim}
 use Rattle.reading.specs.Walked.{walk-by, Of}
+use Rattle.reading.proofs.Removed.{span-of, cut, removes-at}
 use Rattle.reading.proofs.Choose.{choose, choose₂}
 use Rattle.reading.proofs.Matching.{Wraps, wraps-match, Parts}
 use Rattle.reading.proofs.Spans.{Covers, covers-append, covers-after, covers-amend, covers-cut, covers-same, covers-shorter, covers-one}
@@ -316,20 +317,20 @@ module _ (Loose : ℕ → Type 0) (text : List ℕ) (w : Verbatim) where
         closed-fine told (peekOf (v .bytes) c .cursor) (peek-sound (v .bytes) c so) (peek-place (v .bytes) c (h .to) (k .place))
         (format-ahead v (h .to) (peekOf (v .bytes) c .token)) (λ n e. format-within v (h .to) n (peekOf (v .bytes) c .token) e)
 
-    pub in-fine : (r : Rules) (t : Token) → ((i : ℕ) → Of (drops-at v h t w s) i → Loose i) → Fine Loose text v m (suc (h .from)) (in-verbatim r v h t w s)
-    unfolding in-verbatim drops-at Of
+    pub in-fine : (r : Rules) (t : Token) → ((i : ℕ) → Of (removes-at v h t w s) i → Loose i) → Fine Loose text v m (suc (h .from)) (in-verbatim r v h t w s)
+    unfolding in-verbatim removes-at Of
     in-fine r t told = go (closes w h t) refl (all-blank (bytes-of v h)) refl
       where
         go : (b : Bool) → closes w h t ≡ b → (c : Bool) → all-blank (bytes-of v h) ≡ c
             → Fine Loose text v m (suc (h .from)) (in-verbatim r v h t w s)
-        go true e c y = rw (e, in-verbatim) (closes-fine r (λ j o. told j (rw (e, drops-at) o)))
+        go true e c y = rw (e, in-verbatim) (closes-fine r (λ j o. told j (rw (e, removes-at) o)))
         go false e true y =
-            rw (e, y, in-verbatim) (blank-fine y (λ z i l u. told i (rw (e, y, z, drops-at) (inl (l, u)))))
+            rw (e, y, in-verbatim) (blank-fine y (λ z i l u. told i (rw (e, y, z, removes-at) (inl (l, u)))))
         go false e false y = rw (e, y, in-verbatim) (content-fine t)
 
     -- what is dropped is blank
-    pub drops-blank : (t : Token) (i : ℕ) → Of (drops-at v h t w s) i → blank (getD text i 0) ≡ true
-    unfolding drops-at Of cut
+    pub drops-blank : (t : Token) (i : ℕ) → Of (removes-at v h t w s) i → blank (getD text i 0) ≡ true
+    unfolding removes-at Of cut
     drops-blank t i o =
         choose Told (closes w h t) _ _
         (λ e. choose (λ (q : List Event). Told (map span-of q)) (w .run) _ _ (λ r o. g .blanks i o) (λ r o. absurd o))

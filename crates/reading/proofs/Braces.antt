@@ -33,10 +33,10 @@ use Rattle.reading.specs.declared.DelimEventKind.the-variants as makes
 use Rattle.reading.specs.Events.{str}
 use Rattle.reading.specs.Machine.{View, Rules, Sheet, State, Turn, Here, with-openers}
 use Rattle.reading.specs.Tokens.{role-of, is-caret, closing-of, plain, bracket}
-use Rattle.reading.specs.Verbatim.{closes, closed-with, all-blank, bytes-of, skips, blank-content, in-verbatim, moved-on}
+use Rattle.reading.specs.Verbatim.{opens-verbatim, closes, closed-with, all-blank, bytes-of, skips, blank-content, in-verbatim, moved-on}
 use Rattle.reading.specs.Containers.{Along, along, by-itself, seek, may-close, takes, span-with, closes-span, close-as, may-open, opens-or}
 use Rattle.reading.specs.Containers.{tried, container}
-use Rattle.reading.specs.Reading.{angle, colon, noted, bracketed, outside, by-place, here-at, on-token, step, steps, begun, line, start}
+use Rattle.reading.specs.Reading.{refuse, angle, colon, noted, bracketed, outside, by-place, here-at, on-token, step, steps, begun, line, start}
 use Rattle.reading.proofs.Choose.{choose}
 use Rattle.reading.proofs.Stepping.{met, either}
 use Rattle.reading.proofs.Links.{links-step}
@@ -45,7 +45,11 @@ use Rattle.reading.proofs.Links.{links-step}
 abbrev Kept : State → Turn → Type 0
 Kept s b = b .state .refused ≡ s .refused
 
--- or the verbatim as of it
+-- `refused`, and the verbatim, as of a state
+abbrev Same : State → State → Type 0
+Same s t = (t .refused ≡ s .refused) × (t .inside ≡ s .inside)
+
+-- one of the two
 abbrev Spared : State → Turn → Type 0
 Spared s b = Kept s b ⊎ (b .state .inside ≡ s .inside)
 
@@ -67,71 +71,84 @@ module _ (v : View) (h : Here) (s : State) where
       choose (Kept s) (closes w h t) _ _ (λ e. closed-kept _ w _)
       (λ e. choose (Kept s) (all-blank (bytes-of v h)) _ _ (λ y. blank-kept w) (λ y. refl))
 
-  opens-kept : (alone : ℕ) (o : Opens) → opens-or v h alone o s .refused ≡ s .refused
+  opens-same : (alone : ℕ) (o : Opens) → Same s (opens-or v h alone o s)
   unfolding opens-or
-  opens-kept alone opens.None = refl
-  opens-kept alone (opens.Some o) = choose (λ (t : State). t .refused ≡ s .refused) (may-open v h s o) _ _ (λ e. refl) (λ e. refl)
+  opens-same alone opens.None = (refl, refl)
+  opens-same alone (opens.Some o) = choose (Same s) (may-open v h s o) _ _ (λ e. (refl, refl)) (λ e. (refl, refl))
 
-  span-kept : (image : Bool) (o : Opener) (c : Cursor) (t : Next) → Kept s (closes-span v h image o c t s)
+  span-same : (image : Bool) (o : Opener) (c : Cursor) (t : Next) → Same s (closes-span v h image o c t s .state)
   unfolding closes-span span-with
-  span-kept image o c next.None = refl
-  span-kept image o c (next.Some t) = go (takes (role-of (t .kind)))
+  span-same image o c next.None = (refl, refl)
+  span-same image o c (next.Some t) = go (takes (role-of (t .kind)))
     where
-      go : (b : Along) → Kept s (span-with v h image o c (t .len) b s)
-      go by-itself = refl
-      go (along inline) = refl
+      go : (b : Along) → Same s (span-with v h image o c (t .len) b s .state)
+      go by-itself = (refl, refl)
+      go (along inline) = (refl, refl)
 
 module _ (x : Sheet) (v : View) where
-  close-kept : (h : Here) (o : Opener) (d : DelimEventKind) (s : State) → Kept s (close-as x v h o d s)
+  close-same : (h : Here) (o : Opener) (d : DelimEventKind) (s : State) → Same s (close-as x v h o d s .state)
   unfolding close-as
-  close-kept h o (makes.Pair p) s = refl
-  close-kept h o (makes.Span image) s = span-kept v h s image o _ _
-  close-kept h o (makes.Link t) s = refl
+  close-same h o (makes.Pair p) s = (refl, refl)
+  close-same h o (makes.Span image) s = span-same v h s image o _ _
+  close-same h o (makes.Link t) s = (refl, refl)
 
   module _ (s : State) where
-    tried-kept : (h : Here) (m : Marks) (os : List Opener) → Kept s (tried x v h m os s)
+    abbrev As : Turn → Type 0
+    As b = Same s (b .state)
+
+    tried-same : (h : Here) (m : Marks) (os : List Opener) → As (tried x v h m os s)
     unfolding tried
-    tried-kept h m [] = opens-kept v h s (m .alone) (m .opens)
-    tried-kept h m (o ∷ os) =
-        choose (Kept s) (may-close v h s o) _ _ (λ e. close-kept h o (closing-of (o .sort)) (with-openers os s))
-        (λ e. opens-kept v h s (m .alone) (m .opens))
+    tried-same h m [] = opens-same v h s (m .alone) (m .opens)
+    tried-same h m (o ∷ os) =
+        choose As (may-close v h s o) _ _ (λ e. close-same h o (closing-of (o .sort)) (with-openers os s)) (λ e. opens-same v h s (m .alone) (m .opens))
 
-    container-kept : (h : Here) (m : Marks) → Kept s (container x v h m s)
-    container-kept h m = tried-kept h m (seek (m .closes) (s .openers))
+    container-same : (h : Here) (m : Marks) → As (container x v h m s)
+    container-same h m = tried-same h m (seek (m .closes) (s .openers))
 
-    angle-kept : (h : Here) (f : Ahead) → Kept s (angle x v h f s)
+    angle-same : (h : Here) (f : Ahead) → As (angle x v h f s)
     unfolding angle
-    angle-kept h (ahead.Some n) = refl
-    angle-kept h ahead.None = container-kept h (plain str)
+    angle-same h (ahead.Some n) = (refl, refl)
+    angle-same h ahead.None = container-same h (plain str)
 
-    colon-kept : (h : Here) (f : Ahead) → Kept s (colon x v h f s)
+    colon-same : (h : Here) (f : Ahead) → As (colon x v h f s)
     unfolding colon
-    colon-kept h (ahead.Some n) = refl
-    colon-kept h ahead.None = container-kept h (plain str)
+    colon-same h (ahead.Some n) = (refl, refl)
+    colon-same h ahead.None = container-same h (plain str)
 
-    noted-kept : (h : Here) (f : Ahead) → Kept s (noted x v h f s)
+    noted-same : (h : Here) (f : Ahead) → As (noted x v h f s)
     unfolding noted
-    noted-kept h (ahead.Some n) = refl
-    noted-kept h ahead.None = container-kept h bracket
+    noted-same h (ahead.Some n) = (refl, refl)
+    noted-same h ahead.None = container-same h bracket
 
-    bracketed-kept : (h : Here) (p : Lexed) (t : Next) → Kept s (bracketed x v h p t s)
+    bracketed-same : (h : Here) (p : Lexed) (t : Next) → As (bracketed x v h p t s)
     unfolding bracketed
-    bracketed-kept h p next.None = container-kept _ bracket
-    bracketed-kept h p (next.Some t) =
-        choose (Kept s) (is-caret (role-of (t .kind))) _ _ (λ e. noted-kept _ _) (λ e. container-kept _ bracket)
+    bracketed-same h p next.None = container-same _ bracket
+    bracketed-same h p (next.Some t) =
+        choose As (is-caret (role-of (t .kind))) _ _ (λ e. noted-same _ _) (λ e. container-same _ bracket)
+
+    -- outside verbatim a run may open one, and a brace refuses; every other token leaves both as they were
+    pub outside-same : (h : Here) (r : Role)
+        → As (outside x v h r s) ⊎ (outside x v h r s ≡ opens-verbatim v h s) ⊎ (outside x v h r s .state ≡ refuse (v .base + h .from) s)
+    unfolding outside
+    outside-same h role.Backticks =
+        choose (λ (b : Turn). As b ⊎ (b ≡ opens-verbatim v h s) ⊎ (b .state ≡ refuse (v .base + h .from) s)) (leb (h .to - h .from) 255) _ _
+        (λ e. inr (inl refl)) (λ e. inl (container-same h (plain str)))
+    outside-same h role.Brace = inr (inr refl)
+    outside-same h role.Lt = inl (angle-same h (autolinkOf (drop (h .to) (v .bytes))))
+    outside-same h role.Colon = inl (colon-same h (symbolOf (drop (h .to) (v .bytes))))
+    outside-same h role.Bracket = inl (bracketed-same h _ _)
+    outside-same h role.Paren = inl (container-same h (plain str))
+    outside-same h role.Periods = inl (refl, refl)
+    outside-same h role.Hyphens = inl (choose As (ltb (h .to - h .from) 2) _ _ (λ e. container-same h (plain str)) (λ e. (refl, refl)))
+    outside-same h (role.Other m) = inl (container-same h m)
 
     -- the brace is the one that may refuse
     outside-spared : (h : Here) (r : Role) → Spared s (outside x v h r s)
-    unfolding outside
-    outside-spared h role.Backticks = inl (choose (Kept s) (leb (h .to - h .from) 255) _ _ (λ e. refl) (λ e. container-kept h (plain str)))
-    outside-spared h role.Brace = inr refl
-    outside-spared h role.Lt = inl (angle-kept h (autolinkOf (drop (h .to) (v .bytes))))
-    outside-spared h role.Colon = inl (colon-kept h (symbolOf (drop (h .to) (v .bytes))))
-    outside-spared h role.Bracket = inl (bracketed-kept h _ _)
-    outside-spared h role.Paren = inl (container-kept h (plain str))
-    outside-spared h role.Periods = inl refl
-    outside-spared h role.Hyphens = inl (choose (Kept s) (ltb (h .to - h .from) 2) _ _ (λ e. container-kept h (plain str)) (λ e. refl))
-    outside-spared h (role.Other m) = inl (container-kept h m)
+    outside-spared h r =
+        ⊎-elim (λ (e : As (outside x v h r s)). inl (e .0))
+        (⊎-elim (λ (e : outside x v h r s ≡ opens-verbatim v h s). inl (ap (λ (b : Turn). b .state .refused) e))
+        (λ (e : outside x v h r s .state ≡ refuse (v .base + h .from) s). inr (ap (λ (t : State). t .inside) e)))
+        (outside-same h r)
 
     by-spared : (h : Here) (t : Token) (w : Inside) → s .inside ≡ w → Kept s (by-place x v h t w s) ⊎ (by-place x v h t w s .state .inside ≡ inside.No)
     unfolding by-place

@@ -3,7 +3,7 @@ use Prim.Native.Nat.{ℕ, zero, suc, _+_, _-_, _≤_}
 use mathlib.Core.Path.{_≡_, refl, sym, _∙_, subst}
 use mathlib.Core.List.{List, [], _∷_, _++_}
 use mathlib.Core.Bool.{true, false}
-use mathlib.Core.Logic.{_⊎_, inl, ⊎-elim}
+use mathlib.Core.Logic.{inl, ⊎-elim}
 use native.Mathlib.Omega.{arith}
 use lib.ListN.{length, getD, drop, length-drop}
 use lib.Seq.{length-take-le, getD-take, getD-drop}
@@ -15,10 +15,11 @@ use Rattle.reading.specs.declared.Inside.{Inside}
 use Rattle.reading.specs.declared.Inside.the-variants as inside
 use Rattle.reading.specs.declared.Refused.the-variants as refused
 use Rattle.reading.specs.Machine.{View, Sheet, State, Turn, viewOf}
-use Rattle.reading.specs.Verbatim.{moved-on, ended-at, kept, cut}
-use Rattle.reading.specs.Reading.{step, steps, begun, line, lines, start, end-of, views, step-drops, steps-drop, lines-drop, during}
+use Rattle.reading.specs.Verbatim.{moved-on, ended-at, kept}
+use Rattle.reading.specs.Reading.{step, steps, begun, line, lines, start, end-of, views, during}
 use Rattle.reading.specs.Walked.{Of}
 use Rattle.reading.specs.Questions.{total}
+use Rattle.reading.proofs.Removed.{cut, step-removes, steps-remove, lines-remove}
 use Rattle.reading.proofs.Matching.{Parts, still-nil}
 use Rattle.reading.proofs.Spans.{Gap, Covers, gap-none, covers-after, of-left, of-right, of-parts}
 use Rattle.reading.proofs.Queue.{inner-same}
@@ -51,12 +52,12 @@ module _ (Loose : ℕ → Type 0) (text : List ℕ) (x : Sheet) where
 
   module _ (v : View) (m : ℕ) (shows : Shows text v) where
     -- a step, and what is still to be told
-    module _ (n : ℕ) (a : Turn) (un : a .state .refused ≡ refused.No) (t : Told (step-drops v a ++ steps-drop n x v (step x v a))) where
-      now-told : Told (step-drops v a)
-      now-told = told-left (step-drops v a) (steps-drop n x v (step x v a)) t
+    module _ (n : ℕ) (a : Turn) (un : a .state .refused ≡ refused.No) (t : Told (step-removes v a ++ steps-remove n x v (step x v a))) where
+      now-told : Told (step-removes v a)
+      now-told = told-left (step-removes v a) (steps-remove n x v (step x v a)) t
 
-      then-told : Told (steps-drop n x v (step x v a))
-      then-told = told-right (step-drops v a) (steps-drop n x v (step x v a)) t
+      then-told : Told (steps-remove n x v (step x v a))
+      then-told = told-right (step-removes v a) (steps-remove n x v (step x v a)) t
 
       next-held : Held Loose text v m 0 a → Held Loose text v m 0 (step x v a)
       next-held h =
@@ -68,8 +69,8 @@ module _ (Loose : ℕ → Type 0) (text : List ℕ) (x : Sheet) where
     step-on f a un h = next-held 0 a un (λ i o. f i) h
 
     -- any number of steps
-    pub steps-some : (n : ℕ) (a : Turn) → Held Loose text v m 0 a → Told (steps-drop n x v a) → Held Loose text v m 0 (steps n x v a)
-    unfolding steps steps-drop
+    pub steps-some : (n : ℕ) (a : Turn) → Held Loose text v m 0 a → Told (steps-remove n x v a) → Held Loose text v m 0 (steps n x v a)
+    unfolding steps steps-remove
     steps-some zero a h t = h
     steps-some (suc n) a h t =
         either₂ (λ (d : List Line) (b : Turn). Told d → Held Loose text v m 0 b) (a .state .refused) _ _ _ _
@@ -77,9 +78,9 @@ module _ (Loose : ℕ → Type 0) (text : List ℕ) (x : Sheet) where
         (λ e t. steps-some n (step x v a) (next-held n a e t h) (then-told n a e t)) t
 
     -- enough of them reach the line's end
-    pub steps-all : (n lo : ℕ) (a : Turn) → length (v .bytes) ≤ lo + n → Held Loose text v m lo a → Told (steps-drop n x v a)
+    pub steps-all : (n lo : ℕ) (a : Turn) → length (v .bytes) ≤ lo + n → Held Loose text v m lo a → Told (steps-remove n x v a)
         → Held Loose text v m (length (v .bytes)) (steps n x v a)
-    unfolding steps steps-drop
+    unfolding steps steps-remove
     steps-all zero lo a l h t = held-less Loose text x v m lo (length (v .bytes)) a (omega arith) h
     steps-all (suc n) lo a l h t =
         either₂ (λ (d : List Line) (b : Turn). Told d → Held Loose text v m (length (v .bytes)) b) (a .state .refused) _ _ _ _
@@ -90,18 +91,18 @@ module _ (Loose : ℕ → Type 0) (text : List ℕ) (x : Sheet) where
         (λ (k : Held Loose text v m (length (v .bytes)) (step x v a)). steps-all n (length (v .bytes)) (step x v a) (omega arith) k (then-told n a e t))
         (step-held Loose text x v m shows a (h .sound) lo h e (now-told n a e t))) t
 
-    pub steps-blank : (n : ℕ) (a : Turn) → Held Loose text v m 0 a → Told (steps-drop n x v a)
-        → (i : ℕ) → Of (steps-drop n x v a) i → blank (getD text i 0) ≡ true
-    unfolding steps-drop Of
+    pub steps-blank : (n : ℕ) (a : Turn) → Held Loose text v m 0 a → Told (steps-remove n x v a)
+        → (i : ℕ) → Of (steps-remove n x v a) i → blank (getD text i 0) ≡ true
+    unfolding steps-remove Of
     steps-blank zero a h t i o = absurd o
     steps-blank (suc n) a h t i o =
         either (λ (d : List Line). Told d → Of d i → blank (getD text i 0) ≡ true) (a .state .refused) _ _
         (λ p e t o. absurd o)
         (λ e t o.
         ⊎-elim
-        (λ (y : Of (step-drops v a) i). step-blank Loose text x v m shows a (h .sound) 0 h e i y)
-        (λ (y : Of (steps-drop n x v (step x v a)) i). steps-blank n (step x v a) (next-held n a e t h) (then-told n a e t) i y)
-        (of-parts (step-drops v a) (steps-drop n x v (step x v a)) i o)) t o
+        (λ (y : Of (step-removes v a) i). step-blank Loose text x v m shows a (h .sound) 0 h e i y)
+        (λ (y : Of (steps-remove n x v (step x v a)) i). steps-blank n (step x v a) (next-held n a e t h) (then-told n a e t) i y)
+        (of-parts (step-removes v a) (steps-remove n x v (step x v a)) i o)) t o
 
   -- between two lines
   pub record Stood (at n : ℕ) (s : State) : Type 0 where
@@ -149,7 +150,7 @@ module _ (Loose : ℕ → Type 0) (text : List ℕ) (x : Sheet) where
         }
 
     -- a whole line
-    module _ (shows : Shows text v) (told : Told (steps-drop (length (v .bytes)) x v (begun x v s))) where
+    module _ (shows : Shows text v) (told : Told (steps-remove (length (v .bytes)) x v (begun x v s))) where
       pub line-stood : Stood (v .base + length (v .bytes)) (m + length (v .bytes)) (line x v s)
       line-stood =
           let k = steps-all v m shows (length (v .bytes)) 0 (begun x v s) (omega arith) begun-held told in
@@ -161,7 +162,7 @@ module _ (Loose : ℕ → Type 0) (text : List ℕ) (x : Sheet) where
                 subst (λ (n : ℕ). Good Loose text (v .base + n) (m + n) (a .state)) (omega (arith, k .good e .far, k .sound .place)) (k .good e .good);
           }
 
-      pub line-blank : (i : ℕ) → Of (steps-drop (length (v .bytes)) x v (begun x v s)) i → blank (getD text i 0) ≡ true
+      pub line-blank : (i : ℕ) → Of (steps-remove (length (v .bytes)) x v (begun x v s)) i → blank (getD text i 0) ≡ true
       line-blank i o = steps-blank v m shows (length (v .bytes)) (begun x v s) begun-held told i o
 
   -- before each line lie only loose bytes
@@ -170,34 +171,34 @@ module _ (Loose : ℕ → Type 0) (text : List ℕ) (x : Sheet) where
   Apart a (l ∷ ls) = Gap Loose a (l .start) × Apart (l .end) ls
 
   module _ (l : Line) (at m : ℕ) (s : State) (up : l .start ≤ l .end) (in-text : l .end ≤ length text) (g : Gap Loose at (l .start)) (h : Stood at m s)
-      (told : Told (steps-drop (length (viewOf text l .bytes)) x (viewOf text l) (begun x (viewOf text l) s))) where
-    fed-stood : Stood (l .end) (m + (l .end - l .start)) (line x (viewOf text l) s)
+      (told : Told (steps-remove (length (viewOf text l .bytes)) x (viewOf text l) (begun x (viewOf text l) s))) where
+    pub fed-stood : Stood (l .end) (m + (l .end - l .start)) (line x (viewOf text l) s)
     fed-stood =
         let n = view-long text l up in-text in
         let k = line-stood (viewOf text l) at m s g h (view-shows text l up in-text) told in
         subst (λ (e : ℕ). Stood e (m + (l .end - l .start)) (line x (viewOf text l) s)) (omega (arith, n))
         (subst (λ (e : ℕ). Stood (l .start + length (viewOf text l .bytes)) (m + e) (line x (viewOf text l) s)) n k)
 
-  pub lines-stood : (ls : List Line) (at m : ℕ) (s : State) → Rising text at ls → Apart at ls → Stood at m s → Told (lines-drop x (views text ls) s)
+  pub lines-stood : (ls : List Line) (at m : ℕ) (s : State) → Rising text at ls → Apart at ls → Stood at m s → Told (lines-remove x (views text ls) s)
       → Stood (end-of ls at) (m + total ls) (lines x (views text ls) s)
-  unfolding Rising Apart lines lines-drop end-of total
+  unfolding Rising Apart lines lines-remove end-of total
   lines-stood [] at m s r p h t = subst (λ (n : ℕ). Stood at n s) (omega arith) h
   lines-stood (l ∷ ls) at m s r p h t =
       let v = viewOf text l in
-      let d = steps-drop (length (v .bytes)) x v (begun x v s) in
-      let rest = lines-drop x (views text ls) (line x v s) in
+      let d = steps-remove (length (v .bytes)) x v (begun x v s) in
+      let rest = lines-remove x (views text ls) (line x v s) in
       subst (λ (n : ℕ). Stood (end-of ls (l .end)) n (lines x (views text ls) (line x v s))) (omega arith)
       (lines-stood ls (l .end) (m + (l .end - l .start)) (line x v s) (r .3) (p .1)
       (fed-stood l at m s (r .1) (r .2) (p .0) h (told-left d rest t)) (told-right d rest t))
 
-  pub lines-blank : (ls : List Line) (at m : ℕ) (s : State) → Rising text at ls → Apart at ls → Stood at m s → Told (lines-drop x (views text ls) s)
-      → (i : ℕ) → Of (lines-drop x (views text ls) s) i → blank (getD text i 0) ≡ true
-  unfolding Rising Apart lines-drop Of
+  pub lines-blank : (ls : List Line) (at m : ℕ) (s : State) → Rising text at ls → Apart at ls → Stood at m s → Told (lines-remove x (views text ls) s)
+      → (i : ℕ) → Of (lines-remove x (views text ls) s) i → blank (getD text i 0) ≡ true
+  unfolding Rising Apart lines-remove Of
   lines-blank [] at m s r p h t i o = absurd o
   lines-blank (l ∷ ls) at m s r p h t i o =
       let v = viewOf text l in
-      let d = steps-drop (length (v .bytes)) x v (begun x v s) in
-      let rest = lines-drop x (views text ls) (line x v s) in
+      let d = steps-remove (length (v .bytes)) x v (begun x v s) in
+      let rest = lines-remove x (views text ls) (line x v s) in
       ⊎-elim
       (λ (y : Of d i). line-blank v at m s (p .0) h (view-shows text l (r .1) (r .2)) (told-left d rest t) i y)
       (λ (y : Of rest i).
@@ -237,7 +238,7 @@ module _ (Loose : ℕ → Type 0) (text : List ℕ) (x : Sheet) where
       u : Verbatim
       u = record { event = w .event; len = w .len; seen = w .seen; run = false; keep = w .keep; here = w .here }
 
-  pub read-out : (ls : List Line) → Rising text 0 ls → Apart 0 ls → Told (lines-drop x (views text ls) start)
+  pub read-out : (ls : List Line) → Rising text 0 ls → Apart 0 ls → Told (lines-remove x (views text ls) start)
       → (s : State) → s ≡ lines x (views text ls) start → s .refused ≡ refused.No → Out Loose text (end-of ls 0) (suc (total ls)) (ended-at (end-of ls 0) (s .inside) s)
   read-out ls r p t s is e =
       let k = lines-stood ls 0 0 start r p start-stood t in

@@ -18,8 +18,8 @@ use Rattle.reading.specs.declared.Inside.{Inside}
 use Rattle.reading.specs.declared.Inside.the-variants as inside
 use Rattle.reading.specs.Events.{Home, event, str}
 use Rattle.reading.specs.Machine.{View, State, dollar, dollarsOf, lastOf, puts, put, with-openers}
-use Rattle.reading.specs.Verbatim.{span-of}
 use Rattle.reading.specs.Walked.{neither, walk-by, Of, walk-of}
+use Rattle.reading.proofs.Removed.{span-of}
 use Rattle.reading.proofs.Choose.{choose}
 use Rattle.reading.proofs.Matching.{Still, still-nil, still-neither, Parts, parts-append}
 use Rattle.reading.proofs.Spans.{Covers, covers-append, covers-one}

@@ -1,7 +1,7 @@
-pub mod Sheets
 pub mod Sampled
 pub mod Rows
 pub mod Choose
+pub mod Removed
 pub mod Spans
 pub mod Matching
 pub mod Queue
@@ -18,5 +18,6 @@ pub mod Links
 pub mod Braces
 pub mod Drains
 pub mod Feeding
+pub mod Dropping
 pub mod Theorems
 pub mod Answers

@@ -1,7 +1,7 @@
 -- Answers of the Rust (`compare/run rows`): sheets of one line and of many, touching or with gaps, in both readings.
 use mathlib.Core.List.{List, [], _∷_}
 use Rattle.reading.specs.Events.{event, homed, in-text}
-use Rattle.reading.proofs.Sheets.{Row, span, at-home, given, refused-at}
+use Rattle.reading.specs.Sheets.{Row, span, at-home, given, refused-at}
 
 unfoldable pub sampled : List Row
 sampled =

@@ -11,8 +11,8 @@ use Rattle.reading.specs.declared.Line.{Line}
 use Rattle.reading.specs.declared.Event.{Event}
 use Rattle.reading.specs.Events.{Home, becomes, becomes-to, shorter}
 use Rattle.reading.specs.Machine.{amend, amend-last}
-use Rattle.reading.specs.Verbatim.{span-of}
 use Rattle.reading.specs.Walked.{Of}
+use Rattle.reading.proofs.Removed.{span-of}
 
 -- a byte of one of two lists of lines
 pub of-left : (a b : List Line) (i : ℕ) → Of a i → Of (a ++ b) i

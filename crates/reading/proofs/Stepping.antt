@@ -1,7 +1,7 @@
 -- One step keeps the invariant, and takes at least a byte; only at the line's end does it take none. The one case analysis over the rules.
 use Prim.Native.Nat.{ℕ, suc, _+_, _-_, _≤_}
 use mathlib.Core.Path.{_≡_, refl, sym, ap, _∙_}
-use mathlib.Core.List.{List, []}
+use mathlib.Core.List.{List}
 use mathlib.Core.Bool.{true}
 use mathlib.Core.Logic.{_⊎_, inl, inr}
 use native.Mathlib.Omega.{arith}
@@ -33,8 +33,8 @@ use Rattle.reading.specs.Machine.{View, Sheet, State, Turn, Here}
 use Rattle.reading.specs.Tokens.{role-of, is-caret, plain, bracket}
 use Rattle.reading.specs.Containers.{container}
 use Rattle.reading.specs.Reading.{angle, colon, noted, bracketed, outside, by-place, here-at, on-token, unless, step}
-use Rattle.reading.specs.Reading.{drops-in, drops-on, step-drops}
 use Rattle.reading.specs.Walked.{Of}
+use Rattle.reading.proofs.Removed.{removes-in, removes-on, step-removes}
 use Rattle.reading.proofs.Choose.{choose}
 use Rattle.reading.proofs.Good.{Out, Good, GoodBy, good-few}
 use Rattle.reading.proofs.Tables.{MarksOk, RoleOk, plain-ok, bracket-ok, role-ok}
@@ -182,15 +182,15 @@ module _ (Loose : ℕ → Type 0) (text : List ℕ) (x : Sheet) (v : View) (m : 
       ok = here-ok v (a .cursor) t so e
 
       by-held : (w : Inside) → a .state .inside ≡ w → GoodBy Loose text w (v .base + a .cursor .pos) (m + a .cursor .pos) (a .state)
-          → ((i : ℕ) → Of (drops-in v there t w (a .state)) i → Loose i)
+          → ((i : ℕ) → Of (removes-in v there t w (a .state)) i → Loose i)
           → Held Loose text v m (suc (a .cursor .pos)) (by-place x v there t w (a .state))
-      unfolding by-place GoodBy drops-in
+      unfolding by-place GoodBy removes-in
       by-held inside.No is o told = outside-held (a .state) is (a .cursor .pos) o (there .to) (there .cursor) ok (role-of (t .kind)) (role-ok (t .kind))
       by-held (inside.Verbatim w) is o told = held _ _ (in-fine Loose text w v shows m there ok (a .state) is o (x .rules) t told)
 
       by-blank : (w : Inside) → a .state .inside ≡ w → GoodBy Loose text w (v .base + a .cursor .pos) (m + a .cursor .pos) (a .state)
-          → (i : ℕ) → Of (drops-in v there t w (a .state)) i → blank (getD text i 0) ≡ true
-      unfolding GoodBy drops-in Of
+          → (i : ℕ) → Of (removes-in v there t w (a .state)) i → blank (getD text i 0) ≡ true
+      unfolding GoodBy removes-in Of
       by-blank inside.No is o i d = absurd d
       by-blank (inside.Verbatim w) is o i d = drops-blank Loose text w v shows m there ok (a .state) is o t i d
 
@@ -200,9 +200,9 @@ module _ (Loose : ℕ → Type 0) (text : List ℕ) (x : Sheet) (v : View) (m : 
 
     module _ (lo : ℕ) (hd : Held Loose text v m lo a) where
       on-held : (un : a .state .refused ≡ refused.No) (t : Next) → nextOf (v .bytes) (a .cursor) .token ≡ t
-          → ((i : ℕ) → Of (drops-on v a t (nextOf (v .bytes) (a .cursor) .cursor)) i → Loose i)
+          → ((i : ℕ) → Of (removes-on v a t (nextOf (v .bytes) (a .cursor) .cursor)) i → Loose i)
           → Taken-on lo (on-token x v a t (nextOf (v .bytes) (a .cursor) .cursor))
-      unfolding on-token drops-on
+      unfolding on-token removes-on
       on-held un next.None e told =
           let f = hd .good un in
           inr record {
@@ -215,15 +215,15 @@ module _ (Loose : ℕ → Type 0) (text : List ℕ) (x : Sheet) (v : View) (m : 
           let f = hd .good un in
           inl (held-less (suc (a .cursor .pos)) (suc lo) _ (omega (arith, f .far)) (by-held (f .good) t e (a .state .inside) refl (f .good) told))
 
-      pub step-held : a .state .refused ≡ refused.No → ((i : ℕ) → Of (step-drops v a) i → Loose i) → Taken-on lo (step x v a)
-      unfolding step-drops
+      pub step-held : a .state .refused ≡ refused.No → ((i : ℕ) → Of (step-removes v a) i → Loose i) → Taken-on lo (step x v a)
+      unfolding step-removes
       step-held un told = on-held un (nextOf (v .bytes) (a .cursor) .token) refl told
 
-      pub step-blank : a .state .refused ≡ refused.No → (i : ℕ) → Of (step-drops v a) i → blank (getD text i 0) ≡ true
-      unfolding step-drops drops-on Of
+      pub step-blank : a .state .refused ≡ refused.No → (i : ℕ) → Of (step-removes v a) i → blank (getD text i 0) ≡ true
+      unfolding step-removes removes-on Of
       step-blank un i d = on (nextOf (v .bytes) (a .cursor) .token) refl d
         where
           on : (t : Next) → nextOf (v .bytes) (a .cursor) .token ≡ t
-              → Of (drops-on v a t (nextOf (v .bytes) (a .cursor) .cursor)) i → blank (getD text i 0) ≡ true
+              → Of (removes-on v a t (nextOf (v .bytes) (a .cursor) .cursor)) i → blank (getD text i 0) ≡ true
           on next.None e d = absurd d
           on (next.Some t) e d = by-blank (hd .good un .good) t e (a .state .inside) refl (hd .good un .good) i d

@@ -1,5 +1,5 @@
 -- Demand 3 of document 01: of every sheet whose lines pass questions 3 and 4 and that no bare brace refuses, for any bytes and any rules.
-use Prim.Native.Nat.{ℕ, zero, suc, _+_, _-_, _≤_, _<_}
+use Prim.Native.Nat.{ℕ, zero, suc, _+_, _≤_, _<_}
 use mathlib.Core.Path.{_≡_, refl, sym, ap, _∙_, subst}
 use mathlib.Core.List.{List, [], _∷_, append-nil}
 use mathlib.Core.Bool.{Bool, true, false, _&&_}
@@ -21,17 +21,20 @@ use Rattle.lex.proofs.Laws.{Sound, next-stepped, next-sounded}
 use Rattle.reading.specs.Machine.{View, Sheet, State, Turn, viewOf}
 use Rattle.reading.specs.Events.{exit-of}
 use Rattle.reading.specs.Verbatim.{nothing, ended-at}
-use Rattle.reading.specs.Reading.{on-token, step, steps, begun, lines, views, start, end-of, read, dropped, moment}
+use Rattle.reading.specs.Reading.{on-token, step, steps, begun, lines, views, start, end-of, read, moment}
+use Rattle.reading.specs.Dropped.{dropped}
 use Rattle.reading.specs.Questions.{total, first-outside, first-early, Fed}
 use Rattle.reading.specs.Walked.{Walked, Ordered, Of, Covered, Whole, Matches, under, events}
+use Rattle.reading.proofs.Removed.{removed}
+use Rattle.reading.proofs.Dropping.{dropped-removed}
 use Rattle.reading.proofs.Matching.{Still, parts-all}
 use Rattle.reading.proofs.Spans.{Covers, gap-none}
 use Rattle.reading.proofs.Queue.{walks}
 use Rattle.reading.proofs.Good.{Out}
 use Rattle.reading.proofs.Stepping.{met, either, either₂}
 use Rattle.reading.proofs.Drains.{drained-walk, drained-covers, drain-few, covers-ordered, under-one}
-use Rattle.reading.proofs.Feeding.{Rising, Apart, Stood, lines-stood, lines-blank, start-stood, during-few, read-out}
-use Rattle.reading.proofs.Feeding.{view-shows, begun-held, steps-all}
+use Rattle.reading.proofs.Feeding.{Rising, Apart, Stood, lines-stood, lines-blank, start-stood, during-few, read-out, view-shows, begun-held}
+use Rattle.reading.proofs.Feeding.{steps-all}
 
 lower : (a b : ℕ) → ltb (suc a) (suc b) ≡ false → ltb a b ≡ false
 lower a b e = le-ltb a b (omega (arith, ltb-false (suc a) (suc b) e))
@@ -132,6 +135,10 @@ module _ (x : Sheet) where
     pub up : Rising (x .text) 0 ls
     up = rising (x .text) 0 ls (fed .inside) (fed .apart)
 
+    -- what the rules leave out is what the verbatim rule drops
+    none-other : dropped x ls ≡ removed x ls
+    none-other = dropped-removed Any (λ i. tt) x ls up (free 0 ls up)
+
     -- a byte needs no span if it is of no fed line, or of a dropped blank
     abbrev Loose : ℕ → Type 0
     Loose i = Of ls i → Of (dropped x ls) i
@@ -139,12 +146,12 @@ module _ (x : Sheet) where
     gaps : Apart Loose (x .text) x 0 ls
     gaps = apart Loose ls (λ i n o. absurd (n o)) 0 ls up (λ i l o. o)
 
-    told : (i : ℕ) → Of (dropped x ls) i → Loose i
-    told i d o = d
+    told : (i : ℕ) → Of (removed x ls) i → Loose i
+    told i d o = subst (λ (l : List Line). Of l i) (sym none-other) d
 
     -- a dropped byte is a blank
     pub blanks : (i : ℕ) → Of (dropped x ls) i → blank (getD (x .text) i 0) ≡ true
-    blanks i d = lines-blank Loose (x .text) x ls 0 0 start up gaps (start-stood Loose (x .text) x) told i d
+    blanks i d = lines-blank Loose (x .text) x ls 0 0 start up gaps (start-stood Loose (x .text) x) told i (subst (λ (l : List Line). Of l i) none-other d)
 
     module _ (taken : read x ls .refused ≡ refused.No) where
       abbrev before : State

@@ -7,6 +7,9 @@ pub mod Labels
 pub mod Containers
 pub mod Naming
 pub mod Reading
+pub mod Dropped
 pub mod Draining
 pub mod Questions
 pub mod Walked
+pub mod Sheets
+pub mod Worked

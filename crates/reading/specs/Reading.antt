@@ -1,7 +1,7 @@
 -- The reading: a step on a token, repeated to the end of the line, for every line; and the end. The order of the rules is that of the Rust's
 -- `parse_event`.
 use Prim.Native.Nat.{ℕ, zero, suc, _+_, _-_}
-use mathlib.Core.List.{List, [], _∷_, _++_, map}
+use mathlib.Core.List.{List, [], _∷_, map}
 use mathlib.Core.Bool.{true, false}
 use lib.Dec.{leb, ltb}
 use lib.ListN.{length, take, drop}
@@ -26,7 +26,7 @@ use Rattle.reading.specs.Events.{place, link, str, symbol, footnote}
 use Rattle.reading.specs.Machine.{View, Sheet, State, Turn, Here, viewOf, rulesOf, puts, no-str, with-inside}
 use Rattle.reading.specs.Tokens.{role-of, is-caret, plain, bracket}
 use Rattle.reading.specs.Atoms.{dashes, dots, autolinked, named}
-use Rattle.reading.specs.Verbatim.{opens-verbatim, in-verbatim, drops-at, moved-on, flag-of, ended-at}
+use Rattle.reading.specs.Verbatim.{opens-verbatim, in-verbatim, moved-on, flag-of, ended-at}
 use Rattle.reading.specs.Containers.{container}
 
 -- a bare opening brace: the sheet is refused, and no later step is taken
@@ -168,26 +168,3 @@ during j x (v ∷ vs) s = steps j x v (begun x v s) .state
 
 abbrev pub moment : Sheet → List Line → ℕ → ℕ → State
 moment x ls i j = during j x (views (x .text) (drop i ls)) (lines x (views (x .text) (take i ls)) start)
-
--- the blanks that are dropped, told as the steps go: at a token in verbatim, by the verbatim rule
-unfoldable pub drops-in : View → Here → Token → Inside → State → List Line
-drops-in v h t inside.No s = []
-drops-in v h t (inside.Verbatim w) s = drops-at v h t w s
-
-unfoldable pub drops-on : View → Turn → Next → Cursor → List Line
-drops-on v a next.None c = []
-drops-on v a (next.Some t) c = drops-in v (here-at (a .cursor) t c) t (a .state .inside) (a .state)
-
-unfoldable pub step-drops : View → Turn → List Line
-step-drops v a = let l = nextOf (v .bytes) (a .cursor) in drops-on v a (l .token) (l .cursor)
-
-unfoldable pub steps-drop : ℕ → Sheet → View → Turn → List Line
-steps-drop zero x v a = []
-steps-drop (suc n) x v a = unless (a .state .refused) [] (step-drops v a ++ steps-drop n x v (step x v a))
-
-unfoldable pub lines-drop : Sheet → List View → State → List Line
-lines-drop x [] s = []
-lines-drop x (v ∷ vs) s = steps-drop (length (v .bytes)) x v (begun x v s) ++ lines-drop x vs (line x v s)
-
-abbrev pub dropped : Sheet → List Line → List Line
-dropped x ls = lines-drop x (views (x .text) ls) start

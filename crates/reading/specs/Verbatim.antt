@@ -1,6 +1,6 @@
 -- Verbatim (document 01, "Verbatim"; Djot's rules on verbatim, raw inlines and math).
 use Prim.Native.Nat.{ℕ, suc, _+_, _-_}
-use mathlib.Core.List.{List, [], _∷_, map}
+use mathlib.Core.List.{List, [], _∷_}
 use mathlib.Core.Bool.{Bool, true, false, not, _&&_}
 use lib.Dec.{eqb}
 use lib.ListN.{length, getD, take, drop}
@@ -18,7 +18,6 @@ use Rattle.reading.specs.declared.Verbatim.{Verbatim}
 use Rattle.reading.specs.declared.Inside.{Inside}
 use Rattle.reading.specs.declared.Inside.the-variants as inside
 use Rattle.reading.specs.declared.Last.{Last}
-use Rattle.reading.specs.declared.Line.{Line}
 use Rattle.reading.specs.Events.{event, in-text, becomes, shorter, exit-of, enter, str, verbatim, raw-format, inline-math, display-math}
 use Rattle.reading.specs.Machine.{View, Rules, State, Turn, Here, amend, amend-last, puts, put, no-str, with-queue, with-inside}
 use Rattle.reading.specs.Tokens.{role-of, is-run, is-format}
@@ -61,9 +60,6 @@ closes w h t = is-run (role-of (t .kind)) && eqb (h .to - h .from) (w .len)
 -- on closing, if the last non-blank token was a backtick run, the blanks after it are dropped; no other blank is
 unfoldable pub kept : Verbatim → List Event → List Event
 kept w q = elim (w .run) [ true ↦ take (w .keep) q | false ↦ q ]
-
-unfoldable pub cut : Verbatim → List Event → List Event
-cut w q = elim (w .run) [ true ↦ drop (w .keep) q | false ↦ [] ]
 
 abbrev pub nothing : Event
 nothing = event 0 0 0
@@ -146,21 +142,6 @@ in-verbatim r v h t w s =
       | false ↦ elim (all-blank (bytes-of v h)) [
         | true ↦ blank-content v h w s
         | false ↦ record { cursor = h .cursor; state = content v h t w s }
-      ]
-    ]
-
--- a span of dropped bytes
-abbrev pub span-of : Event → Line
-span-of e = record { start = e .start .0; end = e .end .0 }
-
--- the blanks that are dropped at a token inside a verbatim
-unfoldable pub drops-at : View → Here → Token → Verbatim → State → List Line
-drops-at v h t w s =
-    elim (closes w h t) [
-      | true ↦ map span-of (cut w (s .queue))
-      | false ↦ elim (all-blank (bytes-of v h) && skips w (peekOf (v .bytes) (h .cursor) .token)) [
-        | true ↦ record { start = v .base + h .from; end = v .base + h .to } ∷ []
-        | false ↦ []
       ]
     ]
 

@@ -11,7 +11,8 @@ use Rattle.reading.specs.declared.Line.{Line}
 use Rattle.reading.specs.declared.Event.{Event}
 use Rattle.reading.specs.Events.{Home, homeOf}
 use Rattle.reading.specs.Machine.{Sheet}
-use Rattle.reading.specs.Reading.{end-of, sheet, read, dropped}
+use Rattle.reading.specs.Reading.{end-of, sheet, read}
+use Rattle.reading.specs.Dropped.{dropped}
 use Rattle.reading.specs.Draining.{drain}
 use Rattle.reading.specs.Questions.{Rooms, Outcome, total, numbers, filled, label-room}
 

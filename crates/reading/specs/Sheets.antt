@@ -1,4 +1,4 @@
--- A sheet and the answer that it is to get, for the tables of `Rows`.
+-- A sheet with the answer that it is to get: the rows of `Worked`, and of the stored answers of the Rust.
 use Prim.Native.Nat.{ℕ, _+_, _*_}
 use Prim.Native.String.{String}
 use mathlib.Core.List.{List, [], _∷_}
@@ -7,7 +7,8 @@ use Rattle.classes.specs.Classes.{bytes}
 use Rattle.reading.specs.declared.Line.{Line}
 use Rattle.reading.specs.declared.Event.{Event}
 use Rattle.reading.specs.Events.{Home, place, link}
-use Rattle.reading.specs.Reading.{sheet, dropped}
+use Rattle.reading.specs.Reading.{sheet}
+use Rattle.reading.specs.Dropped.{dropped}
 use Rattle.reading.specs.Questions.{Rooms, Outcome, total, numbers, filled, zeros, outcome}
 
 -- a sheet, and what is to be answered: code and place, the events, and the label room's bytes

@@ -1,0 +1,232 @@
+-- What the rules take out of the queue, or never put there, is what the verbatim rule is told to drop: of every sheet `dropped` is `removed`.
+use Prim.Native.Nat.{ℕ, zero, suc, _+_, _-_, _≤_}
+use mathlib.Core.Path.{_≡_, refl, sym, ap, _∙_, subst}
+use mathlib.Core.List.{List, [], _∷_, _++_, map, map-append}
+use mathlib.Core.Bool.{Bool, true, false, not, _&&_}
+use mathlib.Core.Logic.{⊎-elim}
+use native.Mathlib.Omega.{arith}
+use lib.ListN.{length, drop, length-append, drop-of-length-le}
+use lib.Seq.{drop-append-le}
+use Rattle.lex.specs.declared.lex.Token.{Token}
+use Rattle.lex.specs.declared.lex.Next.{Next}
+use Rattle.lex.specs.declared.lex.Next.the-variants as next
+use Rattle.lex.specs.declared.lex.Cursor.{Cursor}
+use Rattle.lex.specs.Lexer.{nextOf, peekOf}
+use Rattle.scan.specs.declared.Ahead.{Ahead}
+use Rattle.scan.specs.declared.Ahead.the-variants as ahead
+use Rattle.reading.specs.declared.Event.{Event}
+use Rattle.reading.specs.declared.Line.{Line}
+use Rattle.reading.specs.declared.Verbatim.{Verbatim}
+use Rattle.reading.specs.declared.Inside.{Inside}
+use Rattle.reading.specs.declared.Inside.the-variants as inside
+use Rattle.reading.specs.declared.Refused.the-variants as refused
+use Rattle.reading.specs.Events.{event, enter, shorter, str}
+use Rattle.reading.specs.Machine.{View, Rules, Sheet, State, Turn, Here, viewOf, amend-last, put}
+use Rattle.reading.specs.Tokens.{role-of, is-run}
+use Rattle.reading.specs.Verbatim.{taken, opened-as, opens-verbatim, closes, closed-with, all-blank, bytes-of, another-run, skips, content}
+use Rattle.reading.specs.Verbatim.{blank-content, in-verbatim, moved-on}
+use Rattle.reading.specs.Reading.{refuse, outside, by-place, here-at, on-token, step, steps, begun, line, views, start}
+use Rattle.reading.specs.Dropped.{Content, no-content, token-at, longer-or-shorter, leads, trailing, drops-at, content-with, drops-in}
+use Rattle.reading.specs.Dropped.{content-in, drops-on, content-on, step-drops, step-content, steps-drop, steps-content, lines-drop, dropped}
+use Rattle.reading.proofs.Choose.{choose, choose₂}
+use Rattle.reading.proofs.Removed.{span-of, cut, removes-at, removes-in, removes-on, step-removes, steps-remove, lines-remove, removed}
+use Rattle.reading.proofs.Spans.{length-amend-last}
+use Rattle.reading.proofs.Good.{Good, GoodBy}
+use Rattle.reading.proofs.Backticks.{Shows}
+use Rattle.reading.proofs.Stepping.{Held, either₂}
+use Rattle.reading.proofs.Braces.{outside-same}
+use Rattle.reading.proofs.Feeding.{Stood, Rising, Apart, view-shows, step-on, begun-held, fed-stood, start-stood}
+
+-- the content that is told is what the reading notes of an open verbatim, and the blanks since the last content are its last events
+pub record Told (w : Verbatim) (s : State) (c : Content) : Type 0 where
+  pub seen : c .seen ≡ w .seen
+  pub run : c .run ≡ w .run
+  pub blanks : c .blanks ≡ map span-of (drop (w .keep) (s .queue))
+
+unfoldable pub ToldBy : Inside → State → Content → Type 0
+ToldBy inside.No s c = Unit {0}
+ToldBy (inside.Verbatim w) s c = Told w s c
+
+-- a run of another length, said twice
+other-run : (w : Verbatim) (t : Next) → longer-or-shorter (w .len) t ≡ another-run w t
+unfolding longer-or-shorter another-run
+other-run w next.None = refl
+other-run w (next.Some t) = refl
+
+module _ (v : View) (h : Here) (w : Verbatim) (s : State) (c : Content) (k : Told w s c) where
+  abbrev behind : Next
+  behind = peekOf (v .bytes) (h .cursor) .token
+
+  led : leads v h (w .len) c ≡ skips w behind
+  led = rw (k .seen, other-run w behind)
+
+  cut-told : trailing c ≡ map span-of (cut w (s .queue))
+  unfolding trailing cut
+  cut-told =
+      ap (λ (b : Bool). elim b [ true ↦ c .blanks | false ↦ [] ]) (k .run)
+      ∙ choose₂ (λ (l : List Line) (q : List Event). l ≡ map span-of q) (w .run) _ _ _ _ (λ e. k .blanks) (λ e. refl)
+
+  -- the same is dropped at a token
+  at-same : (t : Token) → drops-at v h t (w .len) c ≡ removes-at v h t w s
+  unfolding drops-at removes-at
+  at-same t =
+      choose₂ (λ (l m : List Line). l ≡ m) (closes w h t) _ _ _ _ (λ e. cut-told)
+      (λ e. ap (λ (b : Bool). elim (all-blank (bytes-of v h) && b) [ true ↦ token-at v h ∷ [] | false ↦ [] ]) led)
+
+  -- and the content behind it is told: nothing is to be told where it closes
+  module _ (is : s .inside ≡ inside.Verbatim w) (high : w .keep ≤ length (s .queue)) (t : Token) where
+    abbrev After : Turn → Content → Type 0
+    After b d = ToldBy (b .state .inside) (b .state) d
+
+    closed-told : (f : Cursor) (g : Ahead) (d : Content) → After (closed-with v h f w g s) d
+    unfolding closed-with ToldBy
+    closed-told f ahead.None d = tt
+    closed-told f (ahead.Some n) d = tt
+
+    -- a blank that stays, and one that is dropped
+    abbrev more : Content
+    more = record { seen = c .seen; run = c .run; blanks = c .blanks ++ (token-at v h ∷ []) }
+
+    put-told : ToldBy (s .inside) (put v str (h .from) (h .to) s) more
+    unfolding ToldBy
+    put-told =
+        subst (λ (i : Inside). ToldBy i (put v str (h .from) (h .to) s) more) (sym is)
+        (record {
+          seen = k .seen;
+          run = k .run;
+          blanks = ap (λ (l : List Line). l ++ (token-at v h ∷ [])) (k .blanks)
+              ∙ sym (ap (map span-of) (drop-append-le (w .keep) (s .queue) _ high) ∙ map-append span-of (drop (w .keep) (s .queue)) _);
+        })
+
+    same-told : ToldBy (s .inside) s c
+    unfolding ToldBy
+    same-told = subst (λ (i : Inside). ToldBy i s c) (sym is) k
+
+    blank-told : After (blank-content v h w s) (elim (skips w behind) [ true ↦ c | false ↦ more ])
+    unfolding blank-content
+    blank-told =
+        choose (λ (b : Turn). After b (elim (skips w behind) [ true ↦ c | false ↦ more ])) (w .seen) _ _
+        (λ e.
+        subst (λ (b : Bool). ToldBy (s .inside) (put v str (h .from) (h .to) s) (elim b [ true ↦ c | false ↦ more ]))
+        (sym (ap (λ (b : Bool). not b && another-run w behind) e)) put-told)
+        (λ e. choose₂ (λ (a : State) (d : Content). ToldBy (a .inside) a d) (skips w behind) _ _ _ _ (λ y. same-told) (λ y. put-told))
+
+    -- any other token
+    content-told : After (record { cursor = h .cursor; state = content v h t w s }) (record { seen = true; run = is-run (role-of (t .kind)); blanks = [] })
+    unfolding ToldBy
+    content-told =
+        let e = event str (v .base + h .from) (v .base + h .to) in
+        let l : length (s .queue ++ e ∷ []) ≤ suc (length (s .queue)) = omega (arith, length-append (s .queue) (e ∷ [])) in
+        record { seen = refl; run = refl; blanks = sym (ap (map span-of) (drop-of-length-le (s .queue ++ e ∷ []) l)) }
+
+    in-told : (r : Rules) → After (in-verbatim r v h t w s) (content-with v h t (w .len) c)
+    unfolding in-verbatim content-with
+    in-told r =
+        choose (λ (b : Turn). After b (content-with v h t (w .len) c)) (closes w h t) _ _ (λ e. closed-told _ _ _)
+        (λ e.
+        choose₂ After (all-blank (bytes-of v h)) _ _ _ _
+        (λ y. subst (λ (b : Bool). After (blank-content v h w s) (elim b [ true ↦ c | false ↦ more ])) (sym led) blank-told)
+        (λ y. content-told))
+
+-- a token outside verbatim: what opens has no content
+opened-told : (v : View) (h : Here) (s : State) → ToldBy (opens-verbatim v h s .state .inside) (opens-verbatim v h s .state) no-content
+unfolding ToldBy
+opened-told v h s =
+    let n = taken (s .last) (v .base + h .from) in
+    let q = amend-last (shorter n) (s .queue) in
+    let e = event (enter (opened-as n)) (v .base + h .from - n) (v .base + h .to) in
+    let l : length (q ++ e ∷ []) ≤ suc (length (s .queue)) = omega (arith, length-append q (e ∷ []), length-amend-last (shorter n) (s .queue)) in
+    record { seen = refl; run = refl; blanks = sym (ap (map span-of) (drop-of-length-le (q ++ e ∷ []) l)) }
+
+-- nothing is to be told outside verbatim
+out-told : (s : State) (c : Content) → s .inside ≡ inside.No → ToldBy (s .inside) s c
+unfolding ToldBy
+out-told s c e = subst (λ (i : Inside). ToldBy i s c) (sym e) tt
+
+module _ (Loose : ℕ → Type 0) (x : Sheet) (v : View) where
+  outside-told : (h : Here) (t : Token) (s : State) → s .inside ≡ inside.No
+      → let b = outside x v h (role-of (t .kind)) s in ToldBy (b .state .inside) (b .state) no-content
+  outside-told h t s is =
+      let b = outside x v h (role-of (t .kind)) s in
+      ⊎-elim (λ (e : (b .state .refused ≡ s .refused) × (b .state .inside ≡ s .inside)). out-told (b .state) no-content (e .1 ∙ is))
+      (⊎-elim
+      (λ (e : b ≡ opens-verbatim v h s). subst (λ (a : Turn). ToldBy (a .state .inside) (a .state) no-content) (sym e) (opened-told v h s))
+      (λ (e : b .state ≡ refuse (v .base + h .from) s). out-told (b .state) no-content (ap (λ (a : State). a .inside) e ∙ is)))
+      (outside-same x v s h (role-of (t .kind)))
+
+  module _ (text : List ℕ) (at n : ℕ) (a : Turn) where
+    -- a token: the same is dropped, and the content behind it is told
+    module _ (h : Here) (t : Token) (c : Content) where
+      by-told : (w : Inside) → a .state .inside ≡ w → GoodBy Loose text w at n (a .state) → ToldBy w (a .state) c
+          → let b = by-place x v h t w (a .state) in
+          (drops-in v h t w c ≡ removes-in v h t w (a .state)) × ToldBy (b .state .inside) (b .state) (content-in v h t w c)
+      unfolding by-place GoodBy ToldBy drops-in removes-in content-in
+      by-told inside.No is g k = (refl, outside-told h t (a .state) is)
+      by-told (inside.Verbatim w) is g k = (at-same v h w (a .state) c k t, in-told v h w (a .state) c k is (g .high) t (x .rules))
+
+    module _ (c : Content) (g : Good Loose text at n (a .state)) (k : ToldBy (a .state .inside) (a .state) c) where
+      on-told : (t : Next) (d : Cursor)
+          → let b = on-token x v a t d in
+          (drops-on v a t d c ≡ removes-on v a t d) × ToldBy (b .state .inside) (b .state) (content-on v a t d c)
+      unfolding on-token drops-on removes-on content-on
+      on-told next.None d = (refl, k)
+      on-told (next.Some t) d = by-told (here-at (a .cursor) t d) t c (a .state .inside) refl g k
+
+      step-told : let b = step x v a in (step-drops v a c ≡ step-removes v a) × ToldBy (b .state .inside) (b .state) (step-content v a c)
+      unfolding step-removes
+      step-told = on-told (nextOf (v .bytes) (a .cursor) .token) (nextOf (v .bytes) (a .cursor) .cursor)
+
+  -- a turn where no brace is met
+  abbrev Ready : Turn → Content → Type 0
+  Ready a c = a .state .refused ≡ refused.No → ToldBy (a .state .inside) (a .state) c
+
+  module _ (free : (i : ℕ) → Loose i) (text : List ℕ) (m : ℕ) (shows : Shows text v) where
+    now-told : (a : Turn) (c : Content) → Held Loose text v m 0 a → Ready a c → a .state .refused ≡ refused.No
+        → (step-drops v a c ≡ step-removes v a) × ToldBy (step x v a .state .inside) (step x v a .state) (step-content v a c)
+    now-told a c h k e = step-told text (v .base + a .cursor .pos) (m + a .cursor .pos) a c (h .good e .good) (k e)
+
+    -- so many steps
+    steps-told : (n : ℕ) (a : Turn) (c : Content) → Held Loose text v m 0 a → Ready a c
+        → (steps-drop n x v a c ≡ steps-remove n x v a) × Ready (steps n x v a) (steps-content n x v a c)
+    unfolding steps steps-drop steps-remove steps-content
+    steps-told zero a c h k = (refl, k)
+    steps-told (suc n) a c h k =
+        let later : a .state .refused ≡ refused.No
+        → (steps-drop n x v (step x v a) (step-content v a c) ≡ steps-remove n x v (step x v a))
+        × Ready (steps n x v (step x v a)) (steps-content n x v (step x v a) (step-content v a c))
+        = λ e. steps-told n (step x v a) (step-content v a c) (step-on Loose text x v m shows free a e h) (λ z. now-told a c h k e .1) in (
+          either₂ (λ (l d : List Line). l ≡ d) (a .state .refused) _ _ _ _ (λ p e. refl)
+              (λ e.
+              ap (λ (l : List Line). l ++ steps-drop n x v (step x v a) (step-content v a c)) (now-told a c h k e .0)
+              ∙ ap (λ (l : List Line). step-removes v a ++ l) (later e .0)),
+          either₂ Ready (a .state .refused) _ _ _ _ (λ p e. k) (λ e. later e .1),
+        )
+
+-- a verbatim goes on in the next line
+begun-told : (w : Inside) (s t : State) (c : Content) → t .queue ≡ s .queue → ToldBy w s c → ToldBy (moved-on w) t c
+unfolding ToldBy moved-on
+begun-told inside.No s t c e k = tt
+begun-told (inside.Verbatim w) s t c e k =
+    record { seen = k .seen; run = k .run; blanks = k .blanks ∙ ap (λ (q : List Event). map span-of (drop (w .keep) q)) (sym e) }
+
+module _ (Loose : ℕ → Type 0) (free : (i : ℕ) → Loose i) (x : Sheet) where
+  -- all lines
+  lines-told : (ls : List Line) (at m : ℕ) (s : State) (c : Content) → Rising (x .text) at ls → Apart Loose (x .text) x at ls → Stood Loose (x .text) x at m s
+      → (s .refused ≡ refused.No → ToldBy (s .inside) s c) → lines-drop x (views (x .text) ls) s c ≡ lines-remove x (views (x .text) ls) s
+  unfolding Rising Apart lines-drop lines-remove
+  lines-told [] at m s c r p h k = refl
+  lines-told (l ∷ ls) at m s c r p h k =
+      let v = viewOf (x .text) l in
+      let shows = view-shows (x .text) l (r .1) (r .2) in
+      let a = begun x v s in
+      let held = begun-held Loose (x .text) x v at m s (p .0) h in
+      let here = steps-told Loose x v free (x .text) m shows (length (v .bytes)) a c held (λ e. begun-told (s .inside) s (a .state) c refl (k e)) in
+      let d = steps-content (length (v .bytes)) x v a c in
+      let stood = fed-stood Loose (x .text) x l at m s (r .1) (r .2) (p .0) h (λ i o. free i) in
+      ap (λ (z : List Line). z ++ lines-drop x (views (x .text) ls) (line x v s) d) (here .0)
+      ∙ ap (λ (z : List Line). steps-remove (length (v .bytes)) x v a ++ z)
+      (lines-told ls (l .end) (m + (l .end - l .start)) (line x v s) d (r .3) (p .1) stood (here .1))
+
+  pub dropped-removed : (ls : List Line) → Rising (x .text) 0 ls → Apart Loose (x .text) x 0 ls → dropped x ls ≡ removed x ls
+  unfolding ToldBy
+  dropped-removed ls r p = lines-told ls 0 0 start no-content r p (start-stood Loose (x .text) x) (λ e. tt)
