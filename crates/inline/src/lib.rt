@@ -1,8 +1,10 @@
 // The parser of `inline.rs` over lent rooms: one token, the tokens of a line, all lines, and the end.
 ghost use mathlib.Core.Path.{_≡_};
+ghost use mathlib.Core.Bool.{false};
 ghost use mathlib.Core.List.{List};
 ghost use Prim.Native.Nat.{ℕ, _+_, _*_, _^_, _≤_, _<_};
 ghost use lib.ListN.{length};
+ghost use Rattle.lex.specs.Lexer.{freshOf};
 ghost use Rattle.reading.specs.Machine.{byte-before, viewOf};
 ghost use Rattle.reading.specs.Verbatim as said;
 ghost use Rattle.reading.specs.Reading.{step, line as line-of, read as read-of, start, sheet};
@@ -149,6 +151,7 @@ pub fn feed_line(
 pub fn fresh() -> Parser
     ensures { λ r. ⌜ ((q o l : List ℕ) → stands r q o l ≡ start) ⌝ }
     ensures { λ r. ⌜ r .labels ≡ 0 ⌝ }
+    ensures { λ r. ⌜ r .cursor ≡ freshOf 0 false ⌝ }
 {
     Parser {
         cursor: Cursor::new(0, false),

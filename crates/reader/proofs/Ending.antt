@@ -2,9 +2,7 @@
 use Prim.Native.Nat.{ℕ, _+_, _-_, _*_, _/_, _^_, _≤_, _<_}
 use mathlib.Core.Path.{_≡_, refl, sym, ap, _∙_}
 use mathlib.Core.List.{List, [], _∷_, _++_, append-nil}
-use mathlib.Core.Logic.{⊎-elim}
 use mathlib.Core.Bool.{Bool, true, false}
-use native.Mathlib.Nat.{eq-or-lt-of-le}
 use native.Mathlib.Numerals.{add-one}
 use native.Mathlib.Omega.{arith}
 use borrow.Author.Tests.{leb-true, leb-false}
@@ -19,7 +17,7 @@ use Rattle.reading.specs.declared.Refused.the-variants as refused
 use Rattle.reading.specs.Machine.{State}
 use Rattle.reading.specs.Draining.{drain}
 use Rattle.reading.specs.Reading.{sheet, read}
-use Rattle.reading.specs.Questions.{total, label-room, zeros, filled, numbers, refuses, cleared, handed-out, judged}
+use Rattle.reading.specs.Questions.{total, counting, label-room, zeros, filled, numbers, refuses, cleared, handed-out, judged}
 use Rattle.reading.proofs.Theorems.{end-room, room, rising}
 use Rattle.rooms.specs.declared.Parser.{Parser}
 use Rattle.rooms.specs.Records.{events, eventAt}
@@ -132,25 +130,17 @@ judged-lent refused.No true s e q o l q' o' l' a b c = go (leb (length (drain (s
     go true h = rw (h, handed-out) (rw (a, b, c))
     go false h = rw (h, handed-out) (rw (a, b, c))
 
--- of a longer label room only so many bytes count
-pub room-counts : (l : List ℕ) (n : ℕ) → (n ≤ length l) × (n ≤ 4294967295) × (n < length l → n ≡ 4294967295) → n ≡ label-room l
-room-counts l n h = go (leb (length l) 4294967295) refl
+-- the label room that counts is of the room
+pub counting-within : (m n : ℕ) → n ≡ counting m → (n ≤ m) × (n ≤ 4294967295)
+counting-within m n e = go (leb m 4294967295) refl
   where
-    go : (b : Bool) → leb (length l) 4294967295 ≡ b → n ≡ label-room l
-    go true e =
-        ⊎-elim (λ (d : n ≡ length l). d) (λ (d : n < length l). omega (arith, h .2 d, d, leb-true (length l) 4294967295 e)) (eq-or-lt-of-le (h .0)) ∙ rw (e, label-room)
-    go false e =
-        ⊎-elim (λ (d : n ≡ length l). absurd (omega (arith, d, h .1, leb-false (length l) 4294967295 e))) (λ (d : n < length l). h .2 d) (eq-or-lt-of-le (h .0))
-        ∙ rw (e, label-room)
+    go : (b : Bool) → leb m 4294967295 ≡ b → (n ≤ m) × (n ≤ 4294967295)
+    go true h = let z : n ≡ m = e ∙ rw (h, counting) in (omega (arith, z), omega (arith, z, leb-true m 4294967295 h))
+    go false h = let z : n ≡ 4294967295 = e ∙ rw (h, counting) in (omega (arith, z, leb-false m 4294967295 h), omega (arith, z))
 
--- the label room that counts
 module _ (text : List ℕ) (ls : List Line) (reading : ℕ) (q o l : List ℕ) (w : Passed text ls q o) (n : ℕ) (counts : n ≡ label-room l) where
   within : (n ≤ length l) × (n ≤ 4294967295)
-  within = go (leb (length l) 4294967295) refl
-    where
-      go : (b : Bool) → leb (length l) 4294967295 ≡ b → (n ≤ length l) × (n ≤ 4294967295)
-      go true e = let z : n ≡ length l = counts ∙ rw (e, label-room) in (omega (arith, z), omega (arith, z, leb-true (length l) 4294967295 e))
-      go false e = let z : n ≡ 4294967295 = counts ∙ rw (e, label-room) in (omega (arith, z, leb-false (length l) 4294967295 e), omega (arith, z))
+  within = counting-within (length l) n counts
 
   long : length (take n l) ≡ n
   long = length-take-le n l (within .0)

@@ -1,13 +1,13 @@
 -- The lookup of a label: the home that a range lies in, and its bytes.
-use Prim.Native.Nat.{ℕ, _-_, _≤_, _<_}
-use mathlib.Core.Path.{_≡_, refl, sym, ap, _∙_}
+use Prim.Native.Nat.{ℕ, _+_, _-_, _≤_, _<_}
+use mathlib.Core.Path.{_≡_, refl, sym, _∙_}
 use mathlib.Core.List.{List, []}
 use mathlib.Core.Bool.{Bool, true, false}
 use native.Mathlib.Omega.{arith}
-use borrow.Author.Tests.{leb-true, leb-false, le-leb, lt-leb, eqb-true, eqb-false, eq-eqb, ne-eqb}
+use borrow.Author.Tests.{leb-true, le-leb, lt-leb, eq-eqb, ne-eqb}
 use lib.Dec.{leb, eqb}
 use lib.ListN.{length, take, drop}
-use Rattle.reader.specs.Lookup.{withinOf, homeIn, partIn, labelOf}
+use Rattle.reader.specs.Lookup.{withinOf, homeIn, partIn, labelOf, standsIn}
 
 module _ (home b n : ℕ) where
   pub within-yes : b ≤ n → home ≡ withinOf home b n
@@ -53,25 +53,25 @@ module _ (n m home a b : ℕ) where
       go true p false q true r s s' false t e = absurd (omega (arith, some, e))
       go true p false q false r s s' t t' e = absurd (omega (arith, some, e))
 
-module _ (text labels : List ℕ) (home a b found : ℕ) (e : found ≡ homeIn (length text) (length labels) home a b) where
-  pub label-text : found ≡ 1 → take (b - a) (drop a text) ≡ labelOf text labels home a b
-  unfolding partIn
-  label-text h = rw (eq-eqb (homeIn (length text) (length labels) home a b) 1 (sym e ∙ h), partIn)
+-- the bytes of a label, and where they stand
+module _ (text labels : List ℕ) (t l : ℕ × ℕ) (home a b found : ℕ) (e : found ≡ homeIn (length text) (length labels) home a b) where
+  abbrev in-home : ℕ
+  in-home = homeIn (length text) (length labels) home a b
 
-  pub label-labels : found ≡ 2 → take (b - a) (drop a labels) ≡ labelOf text labels home a b
-  unfolding partIn
+  pub label-text : found ≡ 1 → (take (b - a) (drop a text) ≡ labelOf text labels home a b) × ((t .0, a + t .1) ≡ standsIn in-home t l a)
+  unfolding partIn standsIn
+  label-text h = let z = eq-eqb in-home 1 (sym e ∙ h) in (rw (z, partIn), rw (z, standsIn))
+
+  pub label-labels : found ≡ 2 → (take (b - a) (drop a labels) ≡ labelOf text labels home a b) × ((l .0, a + l .1) ≡ standsIn in-home t l a)
+  unfolding partIn standsIn
   label-labels h =
-      rw (
-        ne-eqb (homeIn (length text) (length labels) home a b) 1 (λ z. omega (arith, z, e, h)),
-        eq-eqb (homeIn (length text) (length labels) home a b) 2 (sym e ∙ h),
-        partIn,
-      )
+      let y = ne-eqb in-home 1 (λ z. omega (arith, z, e, h)) in
+      let z = eq-eqb in-home 2 (sym e ∙ h) in
+      (rw (y, z, partIn), rw (y, z, standsIn))
 
-  pub label-none : (found ≡ 1 → ⊥) → (found ≡ 2 → ⊥) → [] ≡ labelOf text labels home a b
-  unfolding partIn
+  pub label-none : (found ≡ 1 → ⊥) → (found ≡ 2 → ⊥) → ([] ≡ labelOf text labels home a b) × (t ≡ standsIn in-home t l a)
+  unfolding partIn standsIn
   label-none d f =
-      rw (
-        ne-eqb (homeIn (length text) (length labels) home a b) 1 (λ z. d (e ∙ z)),
-        ne-eqb (homeIn (length text) (length labels) home a b) 2 (λ z. f (e ∙ z)),
-        partIn,
-      )
+      let y = ne-eqb in-home 1 (λ z. d (e ∙ z)) in
+      let z = ne-eqb in-home 2 (λ z. f (e ∙ z)) in
+      (rw (y, z, partIn), rw (y, z, standsIn))

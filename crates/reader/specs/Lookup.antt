@@ -1,5 +1,5 @@
 -- The lookup of a label (document 01, "Labels"): the bytes of an event's home, from the text or from the label room.
-use Prim.Native.Nat.{ℕ, _-_}
+use Prim.Native.Nat.{ℕ, _+_, _-_}
 use mathlib.Core.List.{List, []}
 use mathlib.Core.Bool.{true, false}
 use lib.Dec.{leb, eqb}
@@ -28,3 +28,8 @@ partIn home text labels a b =
 -- a part of whichever is the home; an impossible home or range gives an empty part
 abbrev pub labelOf : List ℕ → List ℕ → ℕ → ℕ → ℕ → List ℕ
 labelOf text labels home a b = partIn (homeIn (length text) (length labels) home a b) text labels a b
+
+-- where such a part stands, by where the text and the label room stand: a block, and a place in it
+unfoldable pub standsIn : ℕ → ℕ × ℕ → ℕ × ℕ → ℕ → ℕ × ℕ
+standsIn home text labels a =
+    elim (eqb home 1) [ true ↦ (text .0, a + text .1) | false ↦ elim (eqb home 2) [ true ↦ (labels .0, a + labels .1) | false ↦ text ] ]

@@ -6,7 +6,7 @@ ghost use lib.Dec.{leb};
 ghost use lib.ListN.{length, take};
 ghost use Rattle.reading.specs.Draining.{drain};
 ghost use Rattle.reading.specs.Reading.{sheet, read as read-of};
-ghost use Rattle.reading.specs.Questions.{total, label-room, zeros, refuses, cleared, handed-out, judged, outcome};
+ghost use Rattle.reading.specs.Questions.{total, counting, label-room, zeros, refuses, cleared, handed-out, judged, outcome};
 ghost use Rattle.reading.specs.Walked.{Accepted};
 ghost use Rattle.rooms.specs.Records.{events as events-of};
 ghost use Rattle.rooms.specs.Standing.{stands};
@@ -14,7 +14,7 @@ ghost use Rattle.inline.specs.Lines.{lines-of};
 ghost use Rattle.inline.specs.Asks.{StandsFor};
 ghost use Rattle.reader.specs.Asking.{limit, linesSaid, lack, askedLines, askedOf, earlyOf, lineOf, endedOf, Passed, Small};
 ghost use Rattle.reader.specs.Asking.{refusal as refusal-of};
-ghost use Rattle.reader.specs.Lookup.{withinOf, homeIn, labelOf};
+ghost use Rattle.reader.specs.Lookup.{withinOf, homeIn, labelOf, standsIn};
 ghost use Rattle.reader.specs.Telling.{lent, told, kept, accepts, braceOf, codeOf, Parsed};
 use drain::Drained;
 use reading::Answer;
@@ -231,9 +231,12 @@ fn questions(
 
 // The bytes of a label room that count.
 pub fn counted(labels: usize) -> usize
-    ensures { λ r. ⌜ (r ≤ labels) × (r ≤ 4294967295) × ((r < labels) → r ≡ 4294967295) ⌝ }
+    ensures { λ r. ⌜ r ≡ counting labels ⌝ }
 {
-    shorter(labels, LABELS)
+    if LABELS < labels {
+        return LABELS;
+    }
+    labels
 }
 
 // The lines, with the label room that counts.
@@ -482,6 +485,8 @@ pub fn home_of(text: usize, labels: usize, home: u32, start: usize, end: usize) 
 // The bytes of an event's home: a part of the text (1) or of the label room (2). An impossible home or range gives an empty part of the text.
 pub fn label<'a>(text: &'a [u8], labels: &'a [u8], home: u32, start: Place, end: Place) -> &'a [u8]
     ensures { λ r. ⌜ now r ≡ labelOf (now (text .entry)) (now (labels .entry)) home (start .0) (end .0) ⌝ }
+    ensures { λ r. ⌜ r .ptr ≡ standsIn (homeIn (length (now (text .entry))) (length (now (labels .entry))) home (start .0) (end .0)) (text .entry .ptr)
+        (labels .entry .ptr) (start .0) ⌝ }
 {
     let from = start.0 as usize;
     let to = end.0 as usize;

@@ -3,7 +3,6 @@ use Prim.Native.Nat.{ℕ, zero, suc, _+_, _-_, _≤_}
 use mathlib.Core.Path.{_≡_, refl, sym, ap, _∙_, subst}
 use mathlib.Core.List.{List, [], _∷_, _++_, map, map-append}
 use mathlib.Core.Bool.{Bool, true, false, not, _&&_}
-use mathlib.Core.Logic.{⊎-elim}
 use native.Mathlib.Omega.{arith}
 use lib.ListN.{length, drop, length-append, drop-of-length-le}
 use lib.Seq.{drop-append-le}
@@ -25,7 +24,8 @@ use Rattle.reading.specs.Machine.{View, Rules, Sheet, State, Turn, Here,
 use Rattle.reading.specs.Tokens.{role-of, is-run}
 use Rattle.reading.specs.Verbatim.{taken, opened-as, opens-verbatim, closes, closed-with, all-blank, bytes-of, another-run, skips, content}
 use Rattle.reading.specs.Verbatim.{blank-content, in-verbatim, moved-on}
-use Rattle.reading.specs.Reading.{refuse, outside, by-place, here-at, on-token, step, steps, begun, line, views, start}
+use Rattle.reading.specs.Containers.{close-as}
+use Rattle.reading.specs.Reading.{outside, by-place, here-at, on-token, step, steps, begun, line, views, start}
 use Rattle.reading.specs.Dropped.{Content, no-content, token-at, longer-or-shorter, leads, trailing, drops-at, content-with, drops-in}
 use Rattle.reading.specs.Dropped.{content-in, drops-on, content-on, step-drops, step-content, steps-drop, steps-content, lines-drop, dropped}
 use Rattle.reading.proofs.Choose.{choose, choose₂}
@@ -34,7 +34,7 @@ use Rattle.reading.proofs.Spans.{length-amend-last}
 use Rattle.reading.proofs.Good.{Good, GoodBy}
 use Rattle.reading.proofs.Backticks.{Shows}
 use Rattle.reading.proofs.Stepping.{Held, either₂}
-use Rattle.reading.proofs.Braces.{outside-same}
+use Rattle.reading.proofs.Ruling.{ruled}
 use Rattle.reading.proofs.Feeding.{Stood, Rising, Apart, view-shows, step-on, begun-held, fed-stood, start-stood}
 
 -- the content that is told is what the reading notes of an open verbatim, and the blanks since the last content are its last events
@@ -146,13 +146,10 @@ out-told s c e = subst (λ (i : Inside). ToldBy i s c) (sym e) tt
 module _ (Loose : ℕ → Type 0) (x : Sheet) (v : View) where
   outside-told : (h : Here) (t : Token) (s : State) → s .inside ≡ inside.No
       → let b = outside x v h (role-of (t .kind)) s in ToldBy (b .state .inside) (b .state) no-content
+  unfolding close-as
   outside-told h t s is =
-      let b = outside x v h (role-of (t .kind)) s in
-      ⊎-elim (λ (e : (b .state .refused ≡ s .refused) × (b .state .inside ≡ s .inside)). out-told (b .state) no-content (e .1 ∙ is))
-      (⊎-elim
-      (λ (e : b ≡ opens-verbatim v h s). subst (λ (a : Turn). ToldBy (a .state .inside) (a .state) no-content) (sym e) (opened-told v h s))
-      (λ (e : b .state ≡ refuse (v .base + h .from) s). out-told (b .state) no-content (ap (λ (a : State). a .inside) e ∙ is)))
-      (outside-same x v s h (role-of (t .kind)))
+      ruled x x v s (λ a b. ToldBy (a .state .inside) (a .state) no-content) (λ a k. out-told (a .state) no-content (ap (λ z. z .1) k ∙ is))
+      (λ h o t os. out-told _ no-content is) (λ h. opened-told v h s) (λ h. out-told _ no-content is) h (role-of (t .kind))
 
   module _ (text : List ℕ) (at n : ℕ) (a : Turn) where
     -- a token: the same is dropped, and the content behind it is told

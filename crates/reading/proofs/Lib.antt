@@ -14,10 +14,12 @@ pub mod Containing
 pub mod Scanning
 pub mod Backticks
 pub mod Stepping
+pub mod Ruling
 pub mod Links
 pub mod Braces
 pub mod Drains
 pub mod Feeding
 pub mod Dropping
+pub mod Alike
 pub mod Theorems
 pub mod Answers

@@ -48,9 +48,12 @@ pub record Outcome : Type 0 where
 abbrev largest : ℕ
 largest = 1048576
 
--- of a longer label room only so many bytes count
+-- of a label room of more than 4,294,967,295 bytes only that many count
+abbrev pub counting : ℕ → ℕ
+counting n = elim (leb n 4294967295) [ true ↦ n | false ↦ 4294967295 ]
+
 abbrev pub label-room : List ℕ → ℕ
-label-room room = elim (leb (length room) 4294967295) [ true ↦ length room | false ↦ 4294967295 ]
+label-room room = counting (length room)
 
 -- a refusal before anything was written
 abbrev pub refuses : ℕ → ℕ → Rooms → Outcome

@@ -15,7 +15,7 @@ returns : tie.Need-returns
 returns c =
     let new = c .before .new in
     let no-str = c .no-str in
-    (λ q o l. fresh-stands (new .result) (no-str .result) (no-str .ensures) q o l, refl)
+    (λ q o l. fresh-stands (new .result) (no-str .result) (no-str .ensures) q o l, (refl, new .ensures))
 
 pub fresh-spec : {M : Type 1} → statement M
 fresh-spec = tie.close (tie.spec new-requires no-str-requires returns)

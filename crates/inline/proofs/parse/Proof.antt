@@ -24,7 +24,7 @@ loop-holds c =
     let args = c .before .before .before .before .before .before .before .args in
     let pre = c .before .before .before .before .before .before .before .pre in
     let fresh = c .fresh in
-    head-first (args .text .now) (lines-of (args .starts .now) (args .ends .now)) (args .reading) (args .queue .now) (args .openers .now) (args .labels .now) (pre .1) (fresh .result) (fresh .ensures .0) (fresh .ensures .1)
+    head-first (args .text .now) (lines-of (args .starts .now) (args .ends .now)) (args .reading) (args .queue .now) (args .openers .now) (args .labels .now) (pre .1) (fresh .result) (fresh .ensures .0) (fresh .ensures .1 .0)
 
 mul-start : tie.Need-mul-start Inv-loop μ-loop
 mul-start c =

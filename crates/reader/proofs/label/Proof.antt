@@ -40,7 +40,9 @@ part-result-end c =
 
 returns : tie.Need-returns
 returns c =
-    search (needs, label-text)
+    let args = c .before .before .before .before .before .before .before .args in
+    let home-of = c .before .before .home-of in
+    label-text (args .text .now) (args .labels .now) (args .text .ptr) (args .labels .ptr) (args .home) (args .start .0) (args .end .0) (home-of .result) (home-of .ensures) (c .before .if1 .taken)
 
 sub-result-2 : tie.Need-sub-result-2
 sub-result-2 c =
@@ -67,14 +69,18 @@ part-result-end-2 c =
 
 returns-2 : tie.Need-returns-2
 returns-2 c =
-    search (needs, label-labels)
+    let args = c .before .before .before .before .before .before .before .before .args in
+    let home-of = c .before .before .before .home-of in
+    label-labels (args .text .now) (args .labels .now) (args .text .ptr) (args .labels .ptr) (args .home) (args .start .0) (args .end .0) (home-of .result) (home-of .ensures) (c .before .if2 .taken)
 
 slice-aggregate-result : tie.Need-slice-aggregate-result
 slice-aggregate-result c = search needs
 
 returns-3 : tie.Need-returns-3
 returns-3 c =
-    search (needs, label-none)
+    let args = c .before .before .before .before .before .before .before .before .args in
+    let home-of = c .before .before .before .home-of in
+    label-none (args .text .now) (args .labels .now) (args .text .ptr) (args .labels .ptr) (args .home) (args .start .0) (args .end .0) (home-of .result) (home-of .ensures) (c .before .before .if1 .left) (c .before .if2 .left)
 
 pub label-spec : {M : Type 1} → statement M
 label-spec =

@@ -27,7 +27,7 @@ loop-holds c =
     let args = c .before .before .before .before .before .before .args in
     let pre = c .before .before .before .before .before .before .pre in
     let fresh = c .fresh in
-    head-first (args .text .now) (args .lines .now) (args .reading) (args .queue .now) (args .openers .now) (args .labels .now) pre (fresh .result) (fresh .ensures .0) (fresh .ensures .1)
+    head-first (args .text .now) (args .lines .now) (args .reading) (args .queue .now) (args .openers .now) (args .labels .now) pre (fresh .result) (fresh .ensures .0) (fresh .ensures .1 .0)
 
 line-at-requires : tie.Need-line-at-requires Inv-loop μ-loop
 line-at-requires c κs =
