@@ -5,7 +5,7 @@ use mathlib.Core.List.{List, [], _∷_}
 use mathlib.Core.Bool.{Bool, true, false}
 use lib.ListN.{length}
 use Rattle.lex.specs.Lexer.{nextOf, peekOf}
-use Rattle.lex.proofs.Laws.{Sound}
+use Rattle.lex.specs.Sound.{Sound}
 use Rattle.reading.specs.declared.Sort.{Sort}
 use Rattle.reading.specs.declared.Opener.{Opener}
 use Rattle.reading.specs.Events.{str}

@@ -1,4 +1,5 @@
 pub mod Taking
+pub mod Begins
 pub mod Turning
 pub mod Pairs
 pub mod Sheets

@@ -31,7 +31,8 @@ use Rattle.rooms.specs.Standing.{stands, turn, viewed, Stepped}
 use Rattle.rooms.proofs.Rows.{rows-length, rows-at, pile-length}
 use Rattle.verbatim.specs.Opened.{OpenedBy, Begun}
 use Rattle.outside.specs.Outside.{Ended}
-use Rattle.inline.specs.Asks.{Before, Lined, StandsFor, overOf}
+use Rattle.inline.specs.Asks.{Before, StandsFor, overOf}
+use Rattle.inline.proofs.Begins.{Begins}
 
 -- the test of a line's end, taken apart
 on-still : (n pos : ℕ) (r : Refused) → overOf n pos r ≡ false → (r ≡ refused.No) × (pos < n)
@@ -125,7 +126,7 @@ module _ (text line : List ℕ) (m : Margin) (reading : ℕ) (q₀ o₀ l₀ : L
   v = viewed m line
 
   -- a line that has begun
-  pub turns-first : (p r : Parser) → Lined text line m reading p q₀ o₀ l₀ → Begun reading p r → Turns text line m reading q₀ o₀ l₀ r q₀ o₀ l₀ r (length line)
+  pub turns-first : (p r : Parser) → Begins text line m reading p q₀ o₀ l₀ → Begun reading p r → Turns text line m reading q₀ o₀ l₀ r q₀ o₀ l₀ r (length line)
   turns-first p r w b =
       let is = b .same text q₀ o₀ l₀ (length l₀) v in
       record {

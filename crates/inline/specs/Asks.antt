@@ -4,27 +4,24 @@ use mathlib.Core.Path.{_≡_}
 use mathlib.Core.List.{List}
 use mathlib.Core.Bool.{Bool, true}
 use lib.Dec.{leb}
-use lib.ListN.{length}
-use Rattle.lex.proofs.Laws.{Sound}
+use lib.ListN.{length, getD, take}
+use Rattle.lex.specs.Sound.{Sound}
 use Rattle.reading.specs.declared.Inside.the-variants as inside
 use Rattle.reading.specs.declared.Refused.{Refused}
 use Rattle.reading.specs.declared.Refused.the-variants as refused
 use Rattle.reading.specs.declared.Line.{Line}
-use Rattle.reading.specs.Machine.{State, byte-before, viewOf}
+use Rattle.reading.specs.Machine.{State, viewOf}
 use Rattle.reading.specs.Verbatim.{ended-at}
-use Rattle.reading.specs.Reading.{sheet}
+use Rattle.reading.specs.Reading.{sheet, lines, views, start}
 use Rattle.reading.specs.Naming.{Named}
 use Rattle.reading.specs.Questions.{total, Fed}
-use Rattle.reading.proofs.Spans.{Gap}
-use Rattle.reading.proofs.Backticks.{Shows}
-use Rattle.reading.proofs.Feeding as feeding
-use Rattle.reading.proofs.Theorems.{Any}
 use Rattle.rooms.specs.declared.Parser.{Parser}
 use Rattle.rooms.specs.declared.Margin.{Margin}
 use Rattle.rooms.specs.Records.{opens}
 use Rattle.rooms.specs.Standing.{stands, viewed}
 use Rattle.verbatim.specs.Opened.{OpenedBy}
 use Rattle.outside.specs.Outside.{Ended}
+use Rattle.inline.specs.Lines.{none}
 
 -- at a token: a sound cursor, and rooms for what the rest of the line can give
 pub record Before (line : List ℕ) (m : Margin) (p : Parser) (q o l : List ℕ) : Type 0 where
@@ -41,31 +38,10 @@ pub record Before (line : List ℕ) (m : Margin) (p : Parser) (q o l : List ℕ)
   pub label-room : length l < 2 ^ 32
   pub links : p .links .0 + 1 < 2 ^ 32
 
--- at a line: the bytes of the lines before it, the invariant of the reading, and rooms for them and the line
-pub record Lined (text line : List ℕ) (m : Margin) (reading : ℕ) (p : Parser) (q o l : List ℕ) : Type 0 where
-  pub at : ℕ
-  pub count : ℕ
-  pub stood : feeding.Stood Any text (sheet text reading (length l)) at count (stands p q o l)
-  pub gap : Gap Any at (m .base)
-  pub shows : Shows text (viewed m line)
-  pub small : m .base + length line ≤ 1048576
-  pub few : count + length line ≤ 1048576
-  pub room : (count + length line) * 8 ≤ length q
-  pub stack : (count + length line) * 4 ≤ length o
-  pub labels : p .labels ≤ length l
-  pub label-room : length l < 2 ^ 32
-  pub links : p .links .0 ≤ count
-
 -- what a parser and its rooms stand for
 pub record StandsFor (r : Parser) (q o l : List ℕ) (s : State) : Type 0 where
   pub same : stands r q o l ≡ s
   pub labels : r .labels ≤ length l
-
--- at a line of the text: the line itself
-pub record LineFed (text : List ℕ) (line : Line) (reading : ℕ) (p : Parser) (q o l : List ℕ) : Type 0 where
-  pub ordered : line .start ≤ line .end
-  pub within : line .end ≤ length text
-  pub lined : Lined text (viewOf text line .bytes) (record { base = line .start; before = byte-before text (line .start) }) reading p q o l
 
 -- a sheet that passes questions 2 to 6 of document 01, with a label room of 32 bits
 pub record Sheeted (text : List ℕ) (ls : List Line) (q o l : List ℕ) : Type 0 where
@@ -75,6 +51,22 @@ pub record Sheeted (text : List ℕ) (ls : List Line) (q o l : List ℕ) : Type 
   pub room : (2 * total ls + 1) * 8 ≤ length q
   pub stack : total ls * 4 ≤ length o
   pub label-room : length l < 2 ^ 32
+
+-- at a line of the text: it is the next line of such a sheet, and the parser stands for what the lines before it give
+pub record LineFed (text : List ℕ) (here : Line) (reading : ℕ) (p : Parser) (q o l : List ℕ) : Type 0 where
+  pub all : List Line
+  pub index : ℕ
+  pub some : index < length all
+  pub is : here ≡ getD all index none
+  pub asks : Sheeted text all q o l
+  pub same : stands p q o l ≡ lines (sheet text reading (length l)) (views text (take index all)) start
+  pub labels : p .labels ≤ length l
+
+-- the same, where its bytes are cut out
+pub record Lined (text line : List ℕ) (m : Margin) (reading : ℕ) (p : Parser) (q o l : List ℕ) : Type 0 where
+  pub here : Line
+  pub seen : viewed m line ≡ viewOf text here
+  pub fed : LineFed text here reading p q o l
 
 -- the line is at its end, or the sheet is refused
 unfoldable pub overOf : ℕ → ℕ → Refused → Bool

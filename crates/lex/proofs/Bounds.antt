@@ -1,5 +1,5 @@
 -- A token is at least one byte and never passes the end.
-use Prim.Native.Nat.{ℕ, suc, _≤_, _<_}
+use Prim.Native.Nat.{ℕ, suc, _<_}
 use Prim.Native.Char.{code}
 use mathlib.Core.Path.{_≡_, refl, sym, ap, _∙_}
 use mathlib.Core.List.{List, [], _∷_}
@@ -22,13 +22,9 @@ use Rattle.lex.specs.declared.lex.Symbol.the-variants.{ExclaimBracket}
 use Rattle.lex.specs.declared.lex.Next.the-variants.{Some, None}
 use Rattle.lex.specs.declared.lex.Start.{Start}
 use Rattle.lex.specs.declared.lex.Start.the-variants as start
+pub use Rattle.lex.specs.Sound.{Sized}
 use Rattle.lex.specs.Lexer.{token, lookup, startOf, chOf, braces, hyphensOf, begunBy, begunOf, escapedOf, lexed}
 use Rattle.lex.proofs.Tables.{rows, lookup-all, marks, marks-special, own, own-start}
-
--- a length within some bytes
-pub record Sized (n : ℕ) (s : List ℕ) : Type 0 where
-  pub some : 1 ≤ n
-  pub within : n ≤ length s
 
 -- a run whose first byte is in it
 run-some : (p : ℕ → Bool) (s : List ℕ) → 0 < length s → p (getD s 0 0) ≡ true → Sized (run p s) s

@@ -13,6 +13,7 @@ use Rattle.lex.specs.declared.lex.Next.{Next}
 use Rattle.lex.specs.declared.lex.Next.the-variants.{Some, None}
 use Rattle.lex.specs.declared.lex.Cursor.{Cursor}
 use Rattle.lex.specs.declared.lex.Lexed.{Lexed}
+pub use Rattle.lex.specs.Sound.{Sound}
 use Rattle.lex.specs.Lexer.{token, lexed, isText, pendingOf, holdingOf, freshOf, foundBy, nextOf, peekOf}
 use Rattle.lex.proofs.Bounds.{Sized, lexed-sized, lexed-end}
 use Rattle.lex.proofs.Texts.{texts-within}
@@ -61,12 +62,7 @@ pub record Stepped (src : List ℕ) (c : Cursor) (r : Lexed) : Type 0 where
   pub within : (t : Token) → r .token ≡ Some t → c .pos + t .len ≤ length src
   pub verbatim : r .cursor .verbatim ≡ c .verbatim
 
--- a cursor whose place lies within the line, and whose held token is one that can be lexed there: every cursor that the lexer gives
-pub record Sound (src : List ℕ) (c : Cursor) : Type 0 where
-  pub place : c .pos ≤ length src
-  pub held : (t : Token) → c .next ≡ Some t → Sized (t .len) (drop (c .pos) src)
-
--- such a cursor: a token is at least one byte, only at the end is there none, and the next cursor is such a one again
+-- a sound cursor: a token is at least one byte, only at the end is there none, and the next cursor is such a one again
 pub record Sounded (src : List ℕ) (c : Cursor) (r : Lexed) : Type 0 where
   pub some : (t : Token) → r .token ≡ Some t → 1 ≤ t .len
   pub end : r .token ≡ None → c .pos ≡ length src

@@ -1,1 +1,2 @@
 pub mod Lexer
+pub mod Sound

@@ -23,7 +23,7 @@ use Rattle.rooms.specs.declared.Parser.{Parser}
 use Rattle.rooms.specs.Records.{events, eventAt}
 use Rattle.rooms.proofs.Rows.{rows-length}
 use Rattle.inline.specs.Asks.{Sheeted, StandsFor}
-use Rattle.inline.proofs.Sheets.{rising-total}
+use Rattle.inline.proofs.Begins.{rising-total}
 use Rattle.drain.specs.declared.Drained.the-variants.{All, Full}
 use Rattle.drain.specs.Handing.{answered, handed}
 use Rattle.drain.proofs.Handing.{answered-count, answered-too-many, handed-all}

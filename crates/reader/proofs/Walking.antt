@@ -15,7 +15,7 @@ use Rattle.reading.specs.declared.Line.{Line}
 use Rattle.reading.specs.Questions.{total, first-outside, first-early}
 use Rattle.inline.specs.Lines.{lines-of, unpaired, none}
 use Rattle.inline.proofs.Pairs.{no-end, no-start}
-use Rattle.inline.proofs.Sheets.{rising-total}
+use Rattle.inline.proofs.Begins.{rising-total}
 use Rattle.reading.proofs.Theorems.{rising}
 use Rattle.reader.specs.declared.Lines.{Lines}
 use Rattle.reader.specs.declared.Lines.the-variants as lines

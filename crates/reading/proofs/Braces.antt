@@ -2,6 +2,7 @@
 -- sheet. And the links of a line are at most its bytes.
 use Prim.Native.Nat.{ℕ, zero, suc, _+_, _≤_}
 use mathlib.Core.Path.{_≡_, refl, sym, ap, _∙_}
+use mathlib.Core.List.{List, [], _∷_}
 use mathlib.Core.Logic.{_⊎_, inl, inr, ⊎-elim}
 use native.Mathlib.Omega.{arith}
 use lib.ListN.{length}
@@ -20,7 +21,7 @@ use Rattle.reading.specs.Machine.{View, Sheet, State, Turn, Here}
 use Rattle.reading.specs.Tokens.{role-of}
 use Rattle.reading.specs.Verbatim.{moved-on}
 use Rattle.reading.specs.Containers.{close-as}
-use Rattle.reading.specs.Reading.{outside, by-place, here-at, on-token, step, steps, begun, line, start}
+use Rattle.reading.specs.Reading.{outside, by-place, here-at, on-token, step, steps, begun, line, lines, start}
 use Rattle.reading.proofs.Stepping.{met, either}
 use Rattle.reading.proofs.Ruling.{in-kept, ruled}
 use Rattle.reading.proofs.Links.{links-step}
@@ -72,6 +73,11 @@ begun-outside x v s o p e = ap moved-on (o p e)
 
 pub line-outside : (x : Sheet) (v : View) (s : State) → Outside s → Outside (line x v s)
 line-outside x v s o = steps-outside (length (v .bytes)) x v (begun x v s) (begun-outside x v s o)
+
+pub lines-outside : (x : Sheet) (vs : List View) (s : State) → Outside s → Outside (lines x vs s)
+unfolding lines
+lines-outside x [] s o = o
+lines-outside x (v ∷ vs) s o = lines-outside x vs (line x v s) (line-outside x v s o)
 
 pub start-outside : Outside start
 start-outside p e = refl

@@ -4,6 +4,7 @@ use native.Mathlib.Omega.{arith}
 use borrow.Author.Needs.{needs}
 use lib.ListN.{length}
 use Rattle.rooms.specs.Standing.{stands, viewed}
+use Rattle.inline.proofs.Begins.{lined-begins}
 use Rattle.inline.proofs.Turning.{Turns, turns-first, turns-before, turns-next, turns-over, turns-last}
 use Rattle.inline.proofs.read_line.Statement.{statement}
 use Rattle.inline.proofs.read_line.Tie as tie
@@ -23,7 +24,7 @@ loop-holds c =
     let args = c .before .before .before .before .before .before .args in
     let begun = c .begun in
     let pre = c .before .before .before .before .before .before .pre in
-    turns-first (args .text .now) (args .line .now) (args .m) (args .reading) (args .queue .now) (args .openers .now) (args .labels .now) (args .p) (begun .result) pre (begun .ensures)
+    turns-first (args .text .now) (args .line .now) (args .m) (args .reading) (args .queue .now) (args .openers .now) (args .labels .now) (args .p) (begun .result) (lined-begins (args .text .now) (args .line .now) (args .m) (args .reading) (args .p) (args .queue .now) (args .openers .now) (args .labels .now) pre) (begun .ensures)
 
 over-requires : tie.Need-over-requires Inv-loop μ-loop
 over-requires c κs =
