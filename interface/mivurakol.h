@@ -20,7 +20,7 @@ enum {
     MIVURAKOL_OPENER = 4
 };
 
-/* The answer. Code 0 is accepted; a refusal has events and labels 0:
+/* The answer. Code 0 is accepted; a refusal has events and labels 0, and place 0 unless said:
  *   1 the reading is neither 0 nor 1
  *   2 the text is over 1,048,576 bytes, or the line list over 1,048,576 lines
  *   3 line `place` does not have start <= end <= text length
@@ -28,7 +28,7 @@ enum {
  *   5 the queue room has fewer than 2N + 1 records (N: the sum of the line lengths)
  *   6 the opener room has fewer than N records
  *   7 a bare opening brace stands at byte `place`, outside verbatim
- *   8 the label room does not hold the labels
+ *   8 the label room does not hold the labels (of a longer one only 4,294,967,295 bytes count)
  *   9 the event room does not hold the events; never for whoever lends N + 1 records
  * After 1 to 6 no room is written. After 7 to 9 all four are zero. After 0, events and label bytes stand from the front, and all else is zero. */
 typedef struct {

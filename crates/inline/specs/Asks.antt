@@ -38,7 +38,7 @@ pub record Before (line : List ℕ) (m : Margin) (p : Parser) (q o l : List ℕ)
   pub label-room : length l < 2 ^ 32
   pub links : p .links .0 + 1 < 2 ^ 32
 
--- what a parser and its rooms stand for
+-- what a parser and its rooms stand for. The cursor is open: it is of no line any more
 pub record StandsFor (r : Parser) (q o l : List ℕ) (s : State) : Type 0 where
   pub same : stands r q o l ≡ s
   pub labels : r .labels ≤ length l

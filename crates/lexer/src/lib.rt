@@ -31,7 +31,7 @@ impl<'s> Lexer<'s> {
         }
     }
 
-    // The next token, which is held, and the cursor after it.
+    // The next token, and the cursor, which stays before it and holds it.
     pub fn peek(self) -> Lexed
         ensures { λ r. ⌜ r ≡ peekOf (now (self .entry .src)) (self .entry .cursor) ⌝ }
     {

@@ -23,7 +23,13 @@ use Rattle.reader.specs.declared.Early.{Early}
 use Rattle.reader.specs.declared.Early.the-variants as early
 use Rattle.reader.specs.declared.Walk.{Walk}
 use Rattle.reader.specs.declared.Walked.the-variants as walked
-use Rattle.reader.specs.Asking.{linesSaid, earlyOf, onward, lineOf, endedOf, rest, Small}
+use Rattle.reader.specs.Asking.{linesSaid, earlyOf, onward, lineOf, endedOf, Small}
+
+-- of the lines that are left, from line i on
+unfoldable rest : ℕ → ℕ → Walk → List Line → Lines
+rest n i w [] = endedOf (w .early) (w .total)
+rest n i w (l ∷ ls) =
+    elim (leb (l .start) (l .end) && leb (l .end) n) [ true ↦ rest n (suc i) (onward w i l) ls | false ↦ lines.Outside i ]
 
 ltb-suc : (a b : ℕ) → ltb (suc a) (suc b) ≡ ltb a b
 ltb-suc a b = go (ltb a b) refl

@@ -1,6 +1,6 @@
 -- Questions 1 to 6 as the reader asks them: the limits, the lines in one walk, the rooms. That they give the definition's outcome is a law.
-use Prim.Native.Nat.{ℕ, suc, _+_, _-_, _*_, _/_, _^_, _≤_, _<_}
-use mathlib.Core.List.{List, [], _∷_}
+use Prim.Native.Nat.{ℕ, _+_, _-_, _*_, _/_, _^_, _≤_, _<_}
+use mathlib.Core.List.{List}
 use mathlib.Core.Bool.{true, false, _&&_}
 use lib.Dec.{leb, ltb, eqb}
 use lib.ListN.{length}
@@ -84,12 +84,6 @@ lineOf n w i l = elim (leb (l .start) (l .end) && leb (l .end) n) [ true ↦ wal
 unfoldable pub endedOf : Early → ℕ → Lines
 endedOf (early.At k) t = lines.Early k
 endedOf early.No t = lines.Fed t
-
--- of the lines that are left, from line i on
-unfoldable pub rest : ℕ → ℕ → Walk → List Line → Lines
-rest n i w [] = endedOf (w .early) (w .total)
-rest n i w (l ∷ ls) =
-    elim (leb (l .start) (l .end) && leb (l .end) n) [ true ↦ rest n (suc i) (onward w i l) ls | false ↦ lines.Outside i ]
 
 -- indices of 32 bits, and bytes of 64
 unfoldable pub Small : Lines → Type 0

@@ -16,8 +16,12 @@ use Rattle.tables.specs.Tables.{number, sort-at}
 use Rattle.tables.proofs.Tables.{sort-number}
 use Rattle.rooms.specs.declared.Found.the-variants.{At, Nothing}
 use Rattle.rooms.specs.Rows.{pile}
-use Rattle.rooms.specs.Records.{openerAt, opens, encode-opener, place}
+use Rattle.rooms.specs.Records.{openerAt, opens, place}
 use Rattle.rooms.proofs.Rows.{pile-same, pile-length, sets-before, sets-at}
+
+-- an opener as it lies in a room
+abbrev encode-opener : Opener → List ℕ
+encode-opener o = number (o .sort) ∷ o .event ∷ o .span ∷ 0 ∷ []
 
 -- one more opener
 module _ (room : List ℕ) (n : ℕ) (o : Opener) (fits : n * 4 + 4 ≤ length room) where

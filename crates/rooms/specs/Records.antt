@@ -6,7 +6,7 @@ use Rattle.reading.specs.declared.Event.{Event}
 use Rattle.reading.specs.declared.Opener.{Opener}
 use Rattle.reading.specs.Events as events-of
 use Rattle.reading.specs.Events.{place as place-at, link as link-of}
-use Rattle.tables.specs.Tables.{number, sort-at}
+use Rattle.tables.specs.Tables.{sort-at}
 use Rattle.rooms.specs.declared.Home.{Home}
 use Rattle.rooms.specs.declared.Found.{Found}
 use Rattle.rooms.specs.declared.Found.the-variants.{At, Nothing}
@@ -38,14 +38,10 @@ events n room = rows eventAt n room
 abbrev pub homeAs : Home → events-of.Home
 homeAs h = record { home = h .home; start = h .start; end = h .end; link = h .link }
 
--- the opener at place i
+-- the opener at place i; the fourth number is free
 abbrev pub openerAt : List ℕ → ℕ → Opener
 openerAt room i =
     record { sort = sort-at (getD room (i * 4) 0); event = getD room (i * 4 + 1) 0; span = getD room (i * 4 + 2) 0 }
-
--- an opener as it lies in a room; the fourth number is free
-abbrev pub encode-opener : Opener → List ℕ
-encode-opener o = number (o .sort) ∷ o .event ∷ o .span ∷ 0 ∷ []
 
 -- the first n openers, the newest first
 abbrev pub opens : ℕ → List ℕ → List Opener

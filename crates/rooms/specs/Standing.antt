@@ -65,6 +65,9 @@ viewed m line = record { base = m .base; before = m .before; bytes = line }
 abbrev pub here : Span → Parser → Here
 here h p = record { from = h .from; to = h .to; cursor = p .cursor }
 
+-- What a function does is told of the records and label bytes that are counted. What lies behind them in the rooms is open, and so are the eighth number
+-- of an event and the fourth of an opener: a call zeroes the rooms at its end.
+
 -- what a function does that leaves the label room: of p and the rooms q and o it makes r, q′ and o′
 pub record Changed (p : Parser) (q o : List ℕ) (r : Parser) (q′ o′ : List ℕ) (f : State → Turn) : Type 0 where
   pub same : (l : List ℕ) → turn r q′ o′ l ≡ f (stands p q o l)

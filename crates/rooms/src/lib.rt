@@ -186,7 +186,7 @@ fn store(queue: &mut [u32], i: usize, e: Event)
     queue[at + 7] = 0;
 }
 
-// One more event behind the first n.
+// One more event behind the first n. What lies behind it is open.
 pub fn push(queue: &mut [u32], n: usize, e: Event)
     requires { ⌜ n * 8 + 8 ≤ length (now queue) ⌝ }
     ensures { λ _. ⌜ events (n + 1) (now (queue .exit)) ≡ events n (now (queue .entry)) ++ (e ∷ []) ⌝ }
@@ -267,7 +267,7 @@ pub fn opener_at(openers: &[u32], i: usize) -> Opener
     }
 }
 
-// One more opener on the first n.
+// One more opener on the first n. What lies behind it is open.
 pub fn push_opener(openers: &mut [u32], n: usize, o: Opener)
     requires { ⌜ n * 4 + 4 ≤ length (now openers) ⌝ }
     requires { ⌜ o .event < 2 ^ 32 ⌝ }
