@@ -26,7 +26,7 @@ use Rattle.reader.specs.declared.Walked.the-variants as walked
 use Rattle.reader.specs.Asking.{linesSaid, earlyOf, onward, lineOf, endedOf, Small}
 
 -- of the lines that are left, from line i on
-unfoldable rest : ℕ → ℕ → Walk → List Line → Lines
+unfoldable pub rest : ℕ → ℕ → Walk → List Line → Lines
 rest n i w [] = endedOf (w .early) (w .total)
 rest n i w (l ∷ ls) =
     elim (leb (l .start) (l .end) && leb (l .end) n) [ true ↦ rest n (suc i) (onward w i l) ls | false ↦ lines.Outside i ]
