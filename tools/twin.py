@@ -5,12 +5,13 @@ CRATE/twin.txt:
     struct Line 16        the struct, and its size in bytes
     read line_at ..       functions that read the slice itself (`s[i]`, `s.len()`); one that returns an element returns S
     pass read ..          functions that only hand a `&[S]` on, to those of `read` and `pass`
-    from records read ..  functions over `&[S]` of another crate that those of `pass` call
-    value T TERM          some value of a type T that a function of `read` or `pass` returns
+    lend read_lines ..    functions that take an array `[S; n]` and lend it, or its front, as a `&[S]`
+    from records read ..  functions over `&[S]` of another crate that those of `pass` and `lend` call
+    value T TERM          some value of a type T that a function of `read`, `pass` or `lend` returns
 
-A twin of a function is the same source with another element type, which the borrow checker covers: `[u16; N]`, as large as S. Facts are `0 ≤ 0`, since its
-part reads no contract, and the other functions of the crate return some value. What the check generates for the twin goes, with the struct put back for
-the element, to
+A twin of a function is the same source with another element type, which the borrow checker covers: `[u16; N]`, as large as S, or, of one of `lend`, u16.
+Facts are `0 ≤ 0`, since its part reads no contract, and the other functions of the crate return some value. What the check generates for the twin goes,
+with the struct put back for the element, to
     proofs/F/Proof/Lts.antt, Tie.antt     the derivation of F's body, and its needs
     proofs/FKinds.antt, FReads.antt       F's parameters and contract as a caller's proof reads them
 and proofs/F/Proof.antt, if there is none, is the list of holes that the check prints. u16 must stand nowhere else in the crate. The crates below must be
@@ -27,7 +28,7 @@ import fold
 crate = pathlib.Path(sys.argv[1]).resolve()
 root, name = crate.parent.parent, crate.name
 R = f"Rattle.{name}.proofs"
-cfg, values, other = {"read": [], "pass": []}, {}, {}
+cfg, values, other = {"read": [], "pass": [], "lend": []}, {}, {}
 for l in (crate / "twin.txt").read_text().split("\n"):
     w = l.split("#")[0].split()
     if not w:
@@ -44,7 +45,7 @@ N = size // 2
 # what the logic says of S: of this crate, or of the one below that has it
 kept = f"{R}.Kept" if (crate / "proofs/Kept.antt").exists() else f"Rattle.{next(iter(other.values()))[0]}.proofs.Kept"
 ours = sum(cfg.values(), [])
-deps = re.search(rf"^{name}: *(.*)$", (root / "crates.txt").read_text(), re.M).group(1).split()
+deps = [d for d in re.search(rf"^{name}: *(.*)$", (root / "crates.txt").read_text(), re.M).group(1).split() if (root / "crates" / d).exists()]
 FN = re.compile(r'^(?:#\[no_mangle\]\n)?(?:pub )?(?:extern "C" )?fn (\w+)\b.*?\n\}\n', re.M | re.S)
 
 
@@ -95,6 +96,8 @@ def twin(kind, want):
         if f"{path}(" in text:
             theirs = {m.group(1): m.group(0) for m in FN.finditer(plain((root / f"crates/{there}/src/lib.rt").read_text()))}
             text = text.replace(f"{path}(", f"{there}_{f}(") + "\n" + stub(theirs[f], f"{there}_{f}")
+    if kind == "lend":
+        text = text.replace(f"[{S}; ", "[u16; ").replace(f"&[{S}]", "&[u16]")
     return "ghost use Prim.Native.Nat.{_≤_};\n" + text.replace(f"&[{S}]", f"&[[u16; {N}]]")
 
 
@@ -114,6 +117,14 @@ back = [  # the element back to the struct
     (arr, "Kept′.by-value"),
     (arr[1:-1], "Kept′.by-value"),
 ]
+lent = [  # the same for `lend`
+    ("(Array.eInt Syntax.w16) (Array.eInt-laws Syntax.w16)", "Kept′.elem Kept′.elem-laws"),
+    ("(Copies.cRf (Referent.fInt Syntax.w16))", "Kept′.copies"),
+    (e16, "Kept′.row"),
+    ("Syntax.tyRef Syntax.erased Syntax.imm (Syntax.tyArray (Syntax.tyInt Syntax.w16) @)", "Syntax.tyRef Syntax.erased Syntax.imm (Kept′.behinds @)"),
+    ("Syntax.tyRef Syntax.erased Syntax.imm (Syntax.tyInt Syntax.w16)", "Syntax.tyRef Syntax.erased Syntax.imm Kept′.behind"),
+    ("Syntax.tyArray (Syntax.tyInt Syntax.w16) @", "Syntax.tyArray Kept′.by-value @"),
+]
 
 
 def rx(a):
@@ -124,7 +135,7 @@ def camel(g):
     return "".join(w.capitalize() for w in g.split("_"))
 
 
-def restored(f, m, s):
+def restored(kind, f, m, s):
     """What is generated for a twin, with the struct in it, and with the names that the crate's own modules have."""
     s = s.replace("-- the `use` lines below are this print's own: the module states none of them\n", "")
     s = re.sub(r"^ *-- antt refused .*\n", "", s, flags=re.M)
@@ -137,7 +148,7 @@ def restored(f, m, s):
     for k in ["Kinds", "Reads"]:
         for h in ours:
             s = re.sub(rf"^use {R}\.{h}\.{k}( as .*)?$", lambda q: f"use {R}.{camel(h)}{k}" + (q.group(1) or f" as {k}"), s, flags=re.M)
-    for a, b in back:
+    for a, b in lent if kind == "lend" else back:
         s = re.sub(rx(a), lambda q: b.replace("@", q.group(1)) if "@" in b else b, s)
     if "Kept′" in s:
         s = f"use {kept} as Kept′\n" + s
@@ -174,7 +185,7 @@ for kind, f in [(k, f) for k in cfg for f in cfg[k] if f in (sys.argv[2:] or our
     for m in ["Kinds", "Reads", "Lts", "Tie"]:
         to = crate / "proofs" / f / "Proof" / f"{m}.antt" if m in ("Lts", "Tie") else crate / "proofs" / f"{camel(f)}{m}.antt"
         to.parent.mkdir(parents=True, exist_ok=True)
-        to.write_text(restored(f, m, (at / f"{m}.antt").read_text()))
+        to.write_text(restored(kind, f, m, (at / f"{m}.antt").read_text()))
     mods += [f"{camel(f)}Kinds", f"{camel(f)}Reads"]
     if not (crate / "proofs" / f / "Proof.antt").exists():
         holes(f, log, at)

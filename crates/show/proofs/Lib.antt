@@ -1,1 +1,3 @@
 pub mod Splitting
+pub mod ReadLinesKinds
+pub mod ReadLinesReads

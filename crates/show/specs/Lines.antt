@@ -1,11 +1,9 @@
 -- The lines of a text: each with its newline, and the last without one too, unless it is empty (document 01, "Program").
 use Prim.Native.Nat.{ℕ, suc}
 use Prim.Native.Char.{code}
-use mathlib.Core.Path.{_≡_}
-use mathlib.Core.List.{List, [], _∷_, _++_, map}
+use mathlib.Core.List.{List, [], _∷_}
 use mathlib.Core.Bool.{true, false}
 use lib.Dec.{ltb, eqb}
-use lib.ListN.{length, drop}
 use Rattle.reading.specs.declared.Line.{Line}
 
 -- from a place on, in the line that began at `from`
@@ -19,9 +17,3 @@ lines-from from at (b ∷ bs) =
 
 unfoldable pub text-lines : List ℕ → List Line
 text-lines text = lines-from 0 0 text
-
--- the lines from the front of two rooms, and behind them what was there
-pub record Split (text starts ends starts′ ends′ : List ℕ) (n : ℕ) : Type 0 where
-  pub counted : n ≡ length (text-lines text)
-  pub started : starts′ ≡ map (λ (l : Line). l .start) (text-lines text) ++ drop n starts
-  pub ended : ends′ ≡ map (λ (l : Line). l .end) (text-lines text) ++ drop n ends

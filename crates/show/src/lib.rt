@@ -1,15 +1,26 @@
 // The program behind `./sheet`: a sheet of standard input is read, and its events and the answer are printed.
 ghost use mathlib.Core.Path.{_≡_};
 ghost use Prim.Native.Nat.{_/_, _≤_, min};
-ghost use lib.ListN.{length};
-ghost use Rattle.show.specs.Lines.{Split};
+ghost use lib.ListN.{length, take};
+ghost use Rattle.reading.specs.Questions.{outcome};
+ghost use Rattle.reader.specs.Telling.{lent, told};
+ghost use Rattle.show.specs.Lines.{text-lines};
 use reading::Answer;
+use reading::Line;
 
-// The lines of a text, each with its newline: from the front of two rooms. How many there are.
-fn split_lines(text: &[u8], starts: &mut [usize], ends: &mut [usize]) -> usize
-    requires { ⌜ (length (now text) ≤ length (now starts)) × (length (now text) ≤ length (now ends)) ⌝ }
-    ensures { λ r. ⌜ Split (now (text .entry)) (now (starts .entry)) (now (ends .entry)) (now (starts .exit)) (now (ends .exit)) r ⌝ }
+// Lines from the front of a room, and how many there are.
+struct Split {
+    lines: [Line; 1000],
+    count: usize,
+}
+
+// The lines of a text, each with its newline.
+fn split_lines(text: &[u8]) -> Split
+    requires { ⌜ length (now text) ≤ 1000 ⌝ }
+    ensures { λ r. ⌜ r .count ≡ length (text-lines (now (text .entry))) ⌝ }
+    ensures { λ r. ⌜ take (r .count) (r .lines) ≡ text-lines (now (text .entry)) ⌝ }
 {
+    let mut lines = [Line { start: 0, end: 0 }; 1000];
     let mut n = 0;
     let mut from = 0;
     let mut i = 0;
@@ -17,18 +28,22 @@ fn split_lines(text: &[u8], starts: &mut [usize], ends: &mut [usize]) -> usize
         let b = text[i];
         i += 1;
         if b == b'\n' {
-            starts[n] = from;
-            ends[n] = i;
+            lines[n] = Line {
+                start: from,
+                end: i,
+            };
             n += 1;
             from = i;
         }
     }
     if from < i {
-        starts[n] = from;
-        ends[n] = i;
+        lines[n] = Line {
+            start: from,
+            end: i,
+        };
         n += 1;
     }
-    n
+    Split { lines, count: n }
 }
 
 // Numbers on one line.
@@ -68,17 +83,35 @@ fn write_answer(answer: Answer) {
     write_line(&numbers);
 }
 
+// Reads the first n lines of a room, in reading 0.
+fn read_lines(
+    text: &[u8],
+    lines: [Line; 1000],
+    n: usize,
+    events: &mut [u32],
+    queue: &mut [u32],
+    openers: &mut [u32],
+    labels: &mut [u8],
+) -> Answer
+    requires { ⌜ n ≤ 1000 ⌝ }
+    ensures { λ r. ⌜ told r (now (events .exit)) (now (queue .exit)) (now (openers .exit)) (now (labels .exit)) ≡ outcome (now (text .entry))
+        (take n lines) 0 (lent (now (events .entry)) (now (queue .entry)) (now (openers .entry)) (now (labels .entry))) ⌝ }
+{
+    records::read(text, &lines[..n], 0, events, queue, openers, labels)
+}
+
 // Reads the lines of a text, in the rooms of the program.
-fn show_lines(text: &[u8], starts: &[usize], ends: &[usize]) {
+fn show_lines(text: &[u8], lines: [Line; 1000], n: usize)
+    requires { ⌜ n ≤ 1000 ⌝ }
+{
     let mut events = [0u32; 7007];
     let mut queue = [0u32; 16008];
     let mut openers = [0u32; 4000];
     let mut labels = [0u8; 65536];
-    let answer = reader::read(
+    let answer = read_lines(
         text,
-        starts,
-        ends,
-        0,
+        lines,
+        n,
         &mut events,
         &mut queue,
         &mut openers,
@@ -91,10 +124,10 @@ fn show_lines(text: &[u8], starts: &[usize], ends: &[usize]) {
 fn show(text: &[u8])
     requires { ⌜ length (now text) ≤ 1000 ⌝ }
 {
-    let mut starts = [0usize; 1000];
-    let mut ends = [0usize; 1000];
-    let n = split_lines(text, &mut starts, &mut ends);
-    show_lines(text, &starts[..n], &ends[..n]);
+    let split = split_lines(text);
+    let lines = split.lines;
+    let n = split.count;
+    show_lines(text, lines, n);
 }
 
 // At most 1,000 bytes of standard input are a sheet.
