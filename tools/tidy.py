@@ -5,8 +5,9 @@ import sys
 
 
 def uses(name, body):
-    parts = [name] if re.match(r"[A-Za-z]", name) else [p for p in name.split("_") if p]
-    return all(re.search(r"(?<![^\s(){}\[\],;.«»λ])" + re.escape(p) + r"(?![^\s(){}\[\],;.«»])", body) for p in parts)
+    def stands(part):
+        return re.search(r"(?<![^\s(){}\[\],;.«»λ])" + re.escape(part) + r"(?![^\s(){}\[\],;.«»])", body)
+    return stands(name) or all(stands(part) for part in name.split("_") if part)
 
 
 def lines_of(module, names):
@@ -34,7 +35,7 @@ def tidy(file):
     head = re.match(r"(?:--.*\n)*", text).group(0)
     m = re.match(r"(?:(?:use|mod) .*\n|\n)*", text[len(head):])
     body = text[len(head) + m.end():]
-    code, entries = re.sub(r"(?m)--.*$", "", body), {}
+    code, entries = re.sub(r"(?m)^ *--.*$", "", body), {}
     mods = [line for line in m.group(0).split("\n") if line.startswith("mod ")]
     for use in [line for line in m.group(0).split("\n") if line.startswith("use ")]:
         if n := re.match(r"use (.*)\.\{(.*)\}$", use):

@@ -1,4 +1,4 @@
--- The laws of the table and its flags, of runs, and of parts of a slice, which the proofs of crates above cite too.
+-- The laws of the table and its flags; and of runs and of parts of a slice, which the proofs of crates above cite too.
 pub mod Rule
 pub mod Runs
 pub mod Parts

@@ -16,7 +16,7 @@ use Rattle.labels.specs.declared.Shelf.{Shelf}
 use Rattle.labels.specs.declared.Built.{Built}
 use Rattle.labels.specs.declared.Joint.{Joint}
 
--- the answer r with the label room l is what the definition says
+-- the answer r with the label room l is what the definition says. Behind the bytes used the room is open: a label that did not fit may have begun there
 pub record Shelves (r : Shelf) (l : List ℕ) (x : Shelved) : Type 0 where
   pub same : record { home = homeAs (r .home); labels = take (r .labels) l; fits = r .fits } ≡ x
   pub room : r .labels ≤ length l

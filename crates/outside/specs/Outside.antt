@@ -1,5 +1,5 @@
 -- What a token outside verbatim is told by, beside the definition.
-use Prim.Native.Nat.{ℕ, _+_, _-_, _≤_, _<_}
+use Prim.Native.Nat.{ℕ, _-_, _≤_, _<_}
 use mathlib.Core.Path.{_≡_}
 use mathlib.Core.List.{List}
 use mathlib.Core.Logic.{_⊎_}
@@ -30,7 +30,7 @@ refusing at p =
 abbrev pub bracketing : Sheet → View → Here → State → Turn
 bracketing x v h s = let p = peekOf (v .bytes) (h .cursor) in bracketed x v h p (p .token) s
 
--- the newest event ends where it was noted to end, and has the dollars that were noted
+-- there is a newest event, and the dollars noted of it are no more than the place it ends at, nor than the place noted as its end
 pub record Ending (p : Parser) (q : List ℕ) : Type 0 where
   pub some : 0 < p .events
   pub within : p .last .dollars ≤ eventAt q (p .events - 1) .end .0

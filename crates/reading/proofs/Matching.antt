@@ -1,6 +1,6 @@
 -- Exits and enters. The invariant goes by the openers: at each the queue parts into what stands before the opener's event, the event, which
 -- opens nothing as yet, and events that match by themselves.
-use Prim.Native.Nat.{ℕ, zero, suc, _+_, _-_}
+use Prim.Native.Nat.{ℕ, zero, suc, _+_}
 use mathlib.Core.Path.{_≡_, refl, sym, ap, _∙_, subst}
 use mathlib.Core.List.{List, [], _∷_, _++_, append-assoc}
 use lib.ListN.{length, take}

@@ -1,6 +1,5 @@
 -- Events (document 01, "What it reads and what it hands out"): their kinds, homes and link numbers.
 use Prim.Native.Nat.{ℕ, _+_, _-_}
-use mathlib.Core.List.{[]}
 use Rattle.reading.specs.declared.Place.{Place}
 use Rattle.reading.specs.declared.Link.{Link}
 use Rattle.reading.specs.declared.Event.{Event}

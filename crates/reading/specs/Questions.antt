@@ -55,7 +55,7 @@ counting n = elim (leb n 4294967295) [ true ↦ n | false ↦ 4294967295 ]
 abbrev pub label-room : List ℕ → ℕ
 label-room room = counting (length room)
 
--- a refusal before anything was written
+-- a refusal, with the rooms that it leaves
 abbrev pub refuses : ℕ → ℕ → Rooms → Outcome
 refuses code at rooms = record { answer = record { code = code; place = at; events = 0; labels = 0 }; rooms = rooms }
 

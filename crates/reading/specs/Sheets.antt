@@ -21,7 +21,7 @@ pub record Row : Type 0 where
   pub events : List Event
   pub labels : String
 
--- rooms as lent: of exact size, and not clear
+-- rooms as lent: of exact size, with 16 bytes for labels, and not clear
 abbrev pub rooms : Row → Rooms
 rooms r =
     record {

@@ -26,7 +26,7 @@ worked =
 unfoldable pub worked-blanks : List (List Line)
 worked-blanks = [] ∷ [] ∷ [] ∷ [] ∷ [] ∷ [] ∷ [] ∷ [] ∷ [] ∷ [] ∷ [] ∷ (span 2 3 ∷ span 6 7 ∷ []) ∷ [] ∷ []
 
--- not marked P. In the last but one the inner link is dropped: the outer one has number 1, and both labels stand in the room
+-- not marked P. In the last but two the inner link is dropped: the outer one has number 1, and both labels stand in the room
 unfoldable pub others : List Row
 others =
     one-line "...." (event 6 0 3 ∷ event 1 3 4 ∷ []) ""

@@ -116,7 +116,7 @@ pub enum Inside {
     No,
 }
 
-// The newest event: whether it is a Str, its end, and how many dollars a backtick run right behind it would take.
+// The newest event: whether it is a Str, the end of one, and how many dollars a backtick run right behind it would take.
 pub struct Last {
     pub str: bool,
     pub end: Place,

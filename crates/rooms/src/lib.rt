@@ -212,7 +212,7 @@ pub fn event_of(kind: u32, start: Place, end: Place, h: Home) -> Event
     }
 }
 
-// Another kind and home for the event at place i, whose span stays.
+// Another kind and home for the event at place i, whose span stays. Here and below, a record's last number is open.
 pub fn set_kind(queue: &mut [u32], i: usize, kind: u32, h: Home)
     requires { ⌜ i * 8 + 8 ≤ length (now queue) ⌝ }
     ensures { λ _. ⌜ ((n : ℕ) → events n (now (queue .exit)) ≡ amend (becomes kind (homeAs h)) i (events n (now (queue .entry)))) ⌝ }

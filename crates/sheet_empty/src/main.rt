@@ -1,4 +1,4 @@
-// `sheet`, on a sheet with a bare brace, behind one in verbatim.
+// `sheet`, on no input.
 fn main() {
     show::show_input();
 }

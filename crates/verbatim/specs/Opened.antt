@@ -17,7 +17,7 @@ use Rattle.rooms.specs.Standing.{stands, turn}
 use Rattle.verbatim.specs.declared.EventKind.{EventKind}
 use Rattle.verbatim.specs.declared.EventKind.the-variants.{Atom, Enter, Exit}
 
--- an open verbatim: its enter stands in the queue, before what a closing run keeps
+-- an open verbatim: its enter stands in the queue, in the front part that a closing run keeps
 pub record Opened (w : Verbatim) (p : Parser) (q : List ℕ) : Type 0 where
   pub low : w .event < w .keep
   pub high : w .keep ≤ p .events

@@ -1,11 +1,11 @@
 -- `classes::eat_plain` meets its contract: `Passed` holds at the loop's head. The measure is what is left of the bytes.
-use borrow.Author.Needs.{needs}
 use mathlib.Core.Path.{sym, ap, _∙_}
 use mathlib.Core.Bool.{not}
+use Prim.Native.Nat.{_-_}
+use borrow.Author.Needs.{needs}
+use lib.ListN.{length}
 use Rattle.classes.specs.declared.Set.the-variants.{Plain}
 use Rattle.classes.specs.Sets.{inSet}
-use Prim.Native.Nat.{_-_}
-use lib.ListN.{length}
 use Rattle.classes.proofs.Runs.{Passed, passed-none, passed-all, passed-here, passed-more}
 use Rattle.classes.proofs.eat_plain.Statement.{statement}
 use Rattle.classes.proofs.eat_plain.Tie as tie

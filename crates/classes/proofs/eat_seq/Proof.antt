@@ -1,9 +1,9 @@
 -- `classes::eat_seq` meets its contract: `Passed` holds at the loop's head. The measure is what is left of the bytes.
+use mathlib.Core.Path.{sym}
+use Prim.Native.Nat.{_-_}
 use borrow.Author.Needs.{needs}
 use borrow.Author.Tests.{eq-eqb, ne-eqb}
-use mathlib.Core.Path.{sym}
 use lib.Dec.{eqb}
-use Prim.Native.Nat.{_-_}
 use lib.ListN.{length}
 use Rattle.classes.proofs.Runs.{Passed, passed-none, passed-all, passed-here, passed-more}
 use Rattle.classes.proofs.eat_seq.Statement.{statement}

@@ -1,10 +1,10 @@
 -- `classes::eat_while` meets its contract: `Passed` holds at the loop's head. The measure is what is left of the bytes.
+use mathlib.Core.Path.{sym, _∙_}
+use Prim.Native.Nat.{_-_}
 use borrow.Author.Needs.{needs}
 use borrow.Author.Tests.{not-true, not-false}
-use mathlib.Core.Path.{sym, _∙_}
-use Rattle.classes.specs.Sets.{inSet}
-use Prim.Native.Nat.{_-_}
 use lib.ListN.{length}
+use Rattle.classes.specs.Sets.{inSet}
 use Rattle.classes.proofs.Runs.{Passed, passed-none, passed-all, passed-here, passed-more}
 use Rattle.classes.proofs.eat_while.Statement.{statement}
 use Rattle.classes.proofs.eat_while.Tie as tie

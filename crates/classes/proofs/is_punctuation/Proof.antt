@@ -1,7 +1,7 @@
 -- `classes::is_punctuation` meets its contract: the flag that `has` reads is the class's.
 use mathlib.Core.Path.{_∙_}
-use Rattle.classes.proofs.Rule.{class-flags}
 use borrow.Author.Needs.{needs}
+use Rattle.classes.proofs.Rule.{class-flags}
 use Rattle.classes.proofs.is_punctuation.Statement.{statement}
 use Rattle.classes.proofs.is_punctuation.Tie as tie
 

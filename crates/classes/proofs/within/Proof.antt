@@ -1,9 +1,9 @@
 -- `classes::within` meets its contract: each arm is the set's definition, with the flags read by `has`.
 use mathlib.Core.Bool.{or-false, or-assoc}
+use borrow.Author.Needs.{needs}
 use Rattle.classes.specs.Classes.{bytes, among}
 use Rattle.classes.specs.Sets.{inSet}
 use Rattle.classes.proofs.Rule.{class-flags}
-use borrow.Author.Needs.{needs}
 use Rattle.classes.proofs.within.Statement.{statement}
 use Rattle.classes.proofs.within.Tie as tie
 

@@ -1,9 +1,9 @@
 -- `exports::mivurakol_next` meets its contract: what `next_token` answers, as numbers.
 use mathlib.Core.Path.{ap, _∙_}
+use borrow.Author.Needs.{needs}
 use Rattle.lex.specs.declared.lex.Lexed.{Lexed}
 use Rattle.lex.specs.Lexer.{nextOf}
 use Rattle.exports.specs.Numbers.{stepOf}
-use borrow.Author.Needs.{needs}
 use Rattle.exports.proofs.mivurakol_next.Statement.{statement}
 use Rattle.exports.proofs.mivurakol_next.Tie as tie
 

@@ -1,9 +1,9 @@
 -- `exports::mivurakol_peek` meets its contract: what `peek_token` answers, as numbers.
 use mathlib.Core.Path.{ap, _∙_}
+use borrow.Author.Needs.{needs}
 use Rattle.lex.specs.declared.lex.Lexed.{Lexed}
 use Rattle.lex.specs.Lexer.{peekOf}
 use Rattle.exports.specs.Numbers.{stepOf}
-use borrow.Author.Needs.{needs}
 use Rattle.exports.proofs.mivurakol_peek.Statement.{statement}
 use Rattle.exports.proofs.mivurakol_peek.Tie as tie
 

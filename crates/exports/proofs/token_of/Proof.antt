@@ -1,7 +1,7 @@
 -- `exports::token_of` meets its contract: the table of kinds is the definition's list.
 use borrow.Author.Tests.{lt-ltb, le-ltb}
-use Rattle.exports.specs.Numbers.{delimiters, symbols, sequences, kinds, tokenOf}
 use borrow.Author.Needs.{needs}
+use Rattle.exports.specs.Numbers.{delimiters, symbols, sequences, kinds, tokenOf}
 use Rattle.exports.proofs.token_of.Statement.{statement}
 use Rattle.exports.proofs.token_of.Tie as tie
 

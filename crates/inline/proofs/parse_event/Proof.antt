@@ -1,40 +1,28 @@
 -- `inline::parse_event` meets its contract, by the laws of `Taking`.
 use mathlib.Core.Path.{refl}
 use native.Mathlib.Omega.{arith}
+use borrow.Author.Needs.{needs}
 use Rattle.reading.specs.Events.{str}
 use Rattle.reading.specs.Machine.{rulesOf}
-use Rattle.reading.specs.Tokens.{plain, role-of as roleOf}
+use Rattle.reading.specs.Tokens.{plain}
 use Rattle.rooms.specs.Standing.{viewed, here}
 use Rattle.links.specs.Linked.{sheetOf}
 use Rattle.outside.proofs.Alone.{alone, text-role}
 use Rattle.outside.proofs.Told.{as-other}
 use Rattle.inline.proofs.Taking.{event-none, event-within, event-ready, event-shelving, event-ended, event-fits, event-opened, event-room}
 use Rattle.inline.proofs.Taking.{event-outside, event-verbatim}
-use borrow.Author.Needs.{needs}
 use Rattle.inline.proofs.parse_event.Statement.{statement}
 use Rattle.inline.proofs.parse_event.Tie as tie
-use Rattle.inline.proofs.parse_event.Reads as reads
-use Rattle.inline.proofs.parse_event.Lts as lts
-use Rattle.atoms.proofs.put.Reads as put-reads
-use Rattle.lex.proofs.lex.Cursor.next.Reads as next-reads
-use Rattle.outside.proofs.outside.Reads as outside-reads
-use Rattle.rooms.proofs.moved.Reads as moved-reads
-use Rattle.tables.proofs.role_of.Reads as role-of-reads
-use Rattle.verbatim.proofs.in_verbatim.Reads as in-verbatim-reads
 
--- src/lib.rt:39:9
 next-requires : tie.Need-next-requires
 next-requires c κs = search needs
 
--- src/lib.rt:42:20
 enum-known-next : tie.Need-enum-known-next
 enum-known-next c = search needs
 
--- src/lib.rt:43:9
 enum-told : tie.Need-enum-told
 enum-told c = search needs
 
--- src/lib.rt:43:9
 returns : tie.Need-returns
 returns c =
     let args = c .before .before .before .before .before .before .before .before .before .before .args in
@@ -43,7 +31,6 @@ returns c =
     let enum-told = c .enum-told in
     event-none (args .text .now) (args .reading) (args .line .now) (args .m) (args .p) (args .queue .now) (args .openers .now) (args .labels .now) pre (next .result) (next .ensures) (enum-told .given .1)
 
--- src/lib.rt:47:13
 add-t19 : tie.Need-add-t19
 add-t19 c =
     let args = c .before .before .before .before .before .before .before .before .before .before .before .before .before .args in
@@ -52,19 +39,15 @@ add-t19 c =
     let next2 = c .before .before .before .next2 in
     omega (arith, event-within (args .text .now) (args .reading) (args .line .now) (args .m) (args .p) (args .queue .now) (args .openers .now) (args .labels .now) pre (next .result) (next .ensures) _ (next2 .given .1), pre .small)
 
--- src/lib.rt:49:9
 moved-requires : tie.Need-moved-requires
 moved-requires c κs = search needs
 
--- src/lib.rt:53:23
 enum-told-2 : tie.Need-enum-told-2
 enum-told-2 c = search needs
 
--- src/lib.rt:54:58
 enum-told-3 : tie.Need-enum-told-3
 enum-told-3 c = search needs
 
--- src/lib.rt:54:27
 put-requires : tie.Need-put-requires
 put-requires c κs =
     let args = c .before .before .before .before .before .before .before .before .before .before .before .before .before .before .before .before .before .before .before .args in
@@ -74,11 +57,9 @@ put-requires c κs =
     let moved = c .before .before .before .before .before .moved in
     (event-fits (args .text .now) (args .reading) (args .line .now) (args .m) (args .p) (args .queue .now) (args .openers .now) (args .labels .now) pre (next .result) (next .ensures) _ (next2 .given .1) (moved .result) (moved .ensures), event-room (args .text .now) (args .reading) (args .line .now) (args .m) (args .p) (args .queue .now) (args .openers .now) (args .labels .now) pre (next .result) (next .ensures) _ (next2 .given .1) (moved .result) (moved .ensures))
 
--- src/lib.rt:60:17
 role-of-requires : tie.Need-role-of-requires
 role-of-requires c κs = search needs
 
--- src/lib.rt:55:18
 outside-requires : tie.Need-outside-requires
 outside-requires c κs =
     let args = c .before .before .before .before .before .before .before .before .before .before .before .before .before .before .before .before .before .before .before .before .before .args in
@@ -94,11 +75,9 @@ outside-requires c κs =
       ),
     )
 
--- src/lib.rt:67:26
 enum-known-w : tie.Need-enum-known-w
 enum-known-w c = search needs
 
--- src/lib.rt:67:32
 in-verbatim-requires : tie.Need-in-verbatim-requires
 in-verbatim-requires c κs =
     let args = c .before .before .before .before .before .before .before .before .before .before .before .before .before .before .before .before .before .before .args in
@@ -109,11 +88,9 @@ in-verbatim-requires c κs =
     let w = c .before .before .w in
     (event-fits (args .text .now) (args .reading) (args .line .now) (args .m) (args .p) (args .queue .now) (args .openers .now) (args .labels .now) pre (next .result) (next .ensures) _ (next2 .given .1) (moved .result) (moved .ensures), (event-opened (args .text .now) (args .reading) (args .line .now) (args .m) (args .p) (args .queue .now) (args .openers .now) (args .labels .now) pre (next .result) (next .ensures) _ (next2 .given .1) (moved .result) (moved .ensures) _ (w .given .1), event-room (args .text .now) (args .reading) (args .line .now) (args .m) (args .p) (args .queue .now) (args .openers .now) (args .labels .now) pre (next .result) (next .ensures) _ (next2 .given .1) (moved .result) (moved .ensures)))
 
--- src/lib.rt:23:1
 same-length : tie.Need-same-length
 same-length c = search needs
 
--- src/lib.rt:23:1
 returns-2 : tie.Need-returns-2
 returns-2 c =
     let args = c .before .before .before .before .before .before .before .before .before .before .before .before .before .before .before .before .before .before .before .before .before .before .args in
@@ -131,19 +108,15 @@ returns-2 c =
     (as-other x v (here _ (moved .result)) (moved .result) (args .queue .now) (args .openers .now) (args .labels .now) (put .result) (put .last .1 .1 .1 .1 .1 .0) (args .openers .now) (args .labels .now) _ (plain str) (text-role _ (enum-told3 .given .1))
     (alone x v _ (moved .result) (args .queue .now) (args .openers .now) (args .labels .now) (s .labels) (put .result) (put .last .1 .1 .1 .1 .1 .0) (put .ensures (args .openers .now))))
 
--- src/lib.rt:23:1
 same-length-2 : tie.Need-same-length-2
 same-length-2 c = search needs
 
--- src/lib.rt:23:1
 same-length-3 : tie.Need-same-length-3
 same-length-3 c = search needs
 
--- src/lib.rt:23:1
 same-length-4 : tie.Need-same-length-4
 same-length-4 c = search needs
 
--- src/lib.rt:23:1
 returns-3 : tie.Need-returns-3
 returns-3 c =
     let args = c .before .before .before .before .before .before .before .before .before .before .before .before .before .before .before .before .before .before .before .before .before .before .before .before .before .before .before .before .args in
@@ -156,11 +129,9 @@ returns-3 c =
     let role-of = c .before .before .before .before .before .before .before .before .before .before .role-of in
     event-outside (args .text .now) (args .reading) (args .line .now) (args .m) (args .p) (args .queue .now) (args .openers .now) (args .labels .now) pre (next .result) (next .ensures) _ (next2 .given .1) (moved .result) (moved .ensures) (outside .result) (outside .last .1 .1 .1 .1 .1 .1 .0) (outside .last .1 .1 .1 .1 .1 .1 .1 .0) (outside .last .1 .1 .1 .1 .1 .1 .1 .1 .0) (enum-told2 .given .1) (role-of .result) (role-of .ensures) (outside .ensures (rulesOf (args .reading)))
 
--- src/lib.rt:23:1
 same-length-5 : tie.Need-same-length-5
 same-length-5 c = search needs
 
--- src/lib.rt:23:1
 returns-4 : tie.Need-returns-4
 returns-4 c =
     let args = c .before .before .before .before .before .before .before .before .before .before .before .before .before .before .before .before .before .before .before .before .before .args in

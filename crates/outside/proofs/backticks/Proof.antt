@@ -2,25 +2,19 @@
 use Prim.Native.Nat.{_+_}
 use mathlib.Core.Path.{refl}
 use native.Mathlib.Omega.{arith}
+use borrow.Author.Needs.{needs}
 use Rattle.links.specs.Linked.{sheetOf}
 use Rattle.reading.specs.Events.{str}
 use Rattle.reading.specs.Tokens.{plain}
 use Rattle.rooms.specs.Standing.{viewed, here}
 use Rattle.outside.proofs.Told.{dollars-ended, run-opens, run-long}
 use Rattle.outside.proofs.Alone.{alone}
-use borrow.Author.Needs.{needs}
 use Rattle.outside.proofs.backticks.Statement.{statement}
 use Rattle.outside.proofs.backticks.Tie as tie
-use Rattle.outside.proofs.backticks.Reads as reads
-use Rattle.outside.proofs.backticks.Lts as lts
-use Rattle.atoms.proofs.put.Reads as put-reads
-use Rattle.verbatim.proofs.opens_verbatim.Reads as opens-verbatim-reads
 
--- src/lib.rt:181:8
 sub-if1 : tie.Need-sub-if1
 sub-if1 c = search needs
 
--- src/lib.rt:182:9
 opens-verbatim-requires : tie.Need-opens-verbatim-requires
 opens-verbatim-requires c κs =
     let pre = c .before .before .before .before .before .before .before .before .pre in
@@ -29,11 +23,9 @@ opens-verbatim-requires c κs =
     let d = dollars-ended (args .p) (args .queue .now) (args .m .base + args .h .from) (pre .1 .1) in
     (omega (arith, r .long), (omega (arith, r .within, r .small), (omega (arith, r .room, r .long, r .within), (d .0, d .1))))
 
--- src/lib.rt:182:9
 same-length : tie.Need-same-length
 same-length c = search needs
 
--- src/lib.rt:182:9
 returns : tie.Need-returns
 returns c rules =
     let args = c .before .before .before .before .before .before .before .before .before .before .before .args in
@@ -42,15 +34,12 @@ returns c rules =
     let if1 = c .before .before .before .before .if1 in
     run-opens (sheetOf rules (args .text .now) (args .labels .now)) (args .m) (args .line .now) (args .h) (args .p) (args .queue .now) (args .openers .now) (args .labels .now) (opens-verbatim .result) (opens-verbatim .last .1 .1 .1 .0) (pre .1 .0 .labels) (if1 .taken) (opens-verbatim .ensures (args .openers .now) (args .line .now))
 
--- src/lib.rt:184:5
 put-requires : tie.Need-put-requires
 put-requires c κs = search needs
 
--- src/lib.rt:164:1
 same-length-2 : tie.Need-same-length-2
 same-length-2 c = search needs
 
--- src/lib.rt:164:1
 returns-2 : tie.Need-returns-2
 returns-2 c rules =
     let args = c .before .before .before .before .before .before .before .before .before .before .before .args in

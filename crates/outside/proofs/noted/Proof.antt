@@ -1,6 +1,7 @@
 -- `outside::noted` meets its contract, by the laws of `Ahead` and `Alone`.
 use mathlib.Core.Path.{refl, sym, _∙_}
 use native.Mathlib.Omega.{arith}
+use borrow.Author.Needs.{needs}
 use lib.ListN.{drop}
 use Rattle.scan.proofs.Laws.{footnote-some}
 use Rattle.links.specs.Linked.{sheetOf}
@@ -8,40 +9,27 @@ use Rattle.reading.specs.Tokens.{bracket}
 use Rattle.rooms.specs.Standing.{viewed, here}
 use Rattle.outside.proofs.Ahead.{scan-within, noted-else, noted-some}
 use Rattle.outside.proofs.Alone.{opening}
-use borrow.Author.Needs.{needs}
 use Rattle.outside.proofs.noted.Statement.{statement}
 use Rattle.outside.proofs.noted.Tie as tie
-use Rattle.outside.proofs.noted.Reads as reads
-use Rattle.outside.proofs.noted.Lts as lts
-use Rattle.atoms.proofs.named.Reads as named-reads
-use Rattle.containers.proofs.open_as.Reads as open-as-reads
-use Rattle.scan.proofs.ahead_footnote.Reads as ahead-footnote-reads
 
--- src/lib.rt:88:26
 ahead-footnote-requires : tie.Need-ahead-footnote-requires
 ahead-footnote-requires c κs = search needs
 
--- src/lib.rt:88:21
 enum-known-n : tie.Need-enum-known-n
 enum-known-n c = search needs
 
--- src/lib.rt:89:48
 enum-told : tie.Need-enum-told
 enum-told c = search needs
 
--- src/lib.rt:89:9
 open-as-requires : tie.Need-open-as-requires
 open-as-requires c κs = search needs
 
--- src/lib.rt:89:9
 same-length : tie.Need-same-length
 same-length c = search needs
 
--- src/lib.rt:89:9
 same-length-2 : tie.Need-same-length-2
 same-length-2 c = search needs
 
--- src/lib.rt:89:9
 returns : tie.Need-returns
 returns c rules =
     let args = c .before .before .before .before .before .before .before .before .before .before .before .before .before .before .before .args in
@@ -55,7 +43,6 @@ returns c rules =
     _ (sym (ahead-footnote .ensures) ∙ enum-told .given .1) bracket refl
     (opening x v (args .h) (args .p) (args .queue .now) (args .openers .now) (args .labels .now) (pre .1 .labels) (open-as .result) (open-as .last .1 .1 .1 .1 .1 .0) (open-as .last .1 .1 .1 .1 .1 .1 .0) (open-as .ensures))
 
--- src/lib.rt:91:5
 named-requires : tie.Need-named-requires
 named-requires c κs =
     let pre = c .before .before .before .before .before .before .before .before .before .before .pre in
@@ -68,11 +55,9 @@ named-requires c κs =
     let w = scan-within (args .line .now) (args .h .to) _ (footnote-some s _ e .within) (r .within) in
     (omega (arith, r .long), (omega (arith, w, r .small), omega (arith, w, r .room, r .long)))
 
--- src/lib.rt:72:1
 same-length-3 : tie.Need-same-length-3
 same-length-3 c = search needs
 
--- src/lib.rt:72:1
 returns-2 : tie.Need-returns-2
 returns-2 c rules =
     let args = c .before .before .before .before .before .before .before .before .before .before .before .before .before .args in

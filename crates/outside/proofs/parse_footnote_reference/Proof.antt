@@ -1,6 +1,7 @@
 -- `outside::parse_footnote_reference` meets its contract, by the laws of `Caret` and `Alone`.
 use mathlib.Core.Path.{refl, subst, sym, ap, _∙_}
 use native.Mathlib.Omega.{arith}
+use borrow.Author.Needs.{needs}
 use Rattle.lex.specs.declared.lex.Cursor.{Cursor}
 use Rattle.lex.specs.Lexer.{nextOf}
 use Rattle.links.specs.Linked.{sheetOf}
@@ -11,36 +12,21 @@ use Rattle.reading.specs.Machine.{rulesOf}
 use Rattle.reading.specs.Tokens.{bracket, is-caret as caret-role}
 use Rattle.outside.proofs.Caret.{peek-ready, peek-shelving, caret-none, caret-no, caret-yes, caret-within, caret-ready}
 use Rattle.outside.proofs.Alone.{opening}
-use borrow.Author.Needs.{needs}
 use Rattle.outside.proofs.parse_footnote_reference.Statement.{statement}
 use Rattle.outside.proofs.parse_footnote_reference.Tie as tie
-use Rattle.outside.proofs.parse_footnote_reference.Reads as reads
-use Rattle.outside.proofs.parse_footnote_reference.Lts as lts
-use Rattle.containers.proofs.open_as.Reads as open-as-reads
-use Rattle.lex.proofs.lex.Cursor.peek.Reads as peek-reads
-use Rattle.lex.proofs.lex.Cursor.skip.Reads as skip-reads
-use Rattle.outside.proofs.noted.Reads as noted-reads
-use Rattle.rooms.proofs.moved.Reads as moved-reads
-use Rattle.tables.proofs.is_caret.Reads as is-caret-reads
-use Rattle.tables.proofs.role_of.Reads as role-of-reads
 
--- src/lib.rt:112:9
 peek-requires : tie.Need-peek-requires
 peek-requires c κs = search needs
 
--- src/lib.rt:115:9
 moved-requires : tie.Need-moved-requires
 moved-requires c κs = search needs
 
--- src/lib.rt:116:20
 enum-known-next : tie.Need-enum-known-next
 enum-known-next c = search needs
 
--- src/lib.rt:117:48
 enum-told : tie.Need-enum-told
 enum-told c = search needs
 
--- src/lib.rt:117:9
 open-as-requires : tie.Need-open-as-requires
 open-as-requires c κs =
     let args = c .before .before .before .before .before .before .before .before .before .before .before .before .before .args in
@@ -49,15 +35,12 @@ open-as-requires c κs =
     let pre = c .before .before .before .before .before .before .before .before .before .before .before .before .before .pre in
     peek-ready (sheetOf (rulesOf 0) (args .text .now) (args .labels .now)) (args .m) (args .line .now) (args .h) (args .p) (args .queue .now) (args .openers .now) (args .labels .now) (peek .result) (peek .ensures) (moved .result) (moved .ensures) (pre .0)
 
--- src/lib.rt:117:9
 same-length : tie.Need-same-length
 same-length c = search needs
 
--- src/lib.rt:117:9
 same-length-2 : tie.Need-same-length-2
 same-length-2 c = search needs
 
--- src/lib.rt:117:9
 returns : tie.Need-returns
 returns c rules =
     let args = c .before .before .before .before .before .before .before .before .before .before .before .before .before .before .before .before .before .before .args in
@@ -73,19 +56,15 @@ returns c rules =
     (open-as .result) (open-as .last .1 .1 .1 .1 .1 .0) (open-as .last .1 .1 .1 .1 .1 .1 .0) (args .labels .now) (enum-told .given .1) bracket refl
     (opening x v (args .h) (moved .result) (args .queue .now) (args .openers .now) (args .labels .now) (s .labels) (open-as .result) (open-as .last .1 .1 .1 .1 .1 .0) (open-as .last .1 .1 .1 .1 .1 .1 .0) (open-as .ensures))
 
--- src/lib.rt:120:25
 role-of-requires : tie.Need-role-of-requires
 role-of-requires c κs = search needs
 
--- src/lib.rt:120:8
 is-caret-requires : tie.Need-is-caret-requires
 is-caret-requires c κs = search needs
 
--- src/lib.rt:121:13
 skip-requires : tie.Need-skip-requires
 skip-requires c κs = search needs
 
--- src/lib.rt:124:17
 add-t25 : tie.Need-add-t25
 add-t25 c =
     let args = c .before .before .before .before .before .before .before .before .before .before .before .before .before .before .before .before .before .before .args in
@@ -95,11 +74,9 @@ add-t25 c =
     let pre = c .before .before .before .before .before .before .before .before .before .before .before .before .before .before .before .before .before .before .pre in
     omega (arith, caret-within (sheetOf (rulesOf 0) (args .text .now) (args .labels .now)) (args .m) (args .line .now) (args .h) (args .p) (args .queue .now) (args .openers .now) (args .labels .now) (peek .result) (peek .ensures) (moved .result) (moved .ensures) _ (next .given .1) (pre .0), pre .0 .small)
 
--- src/lib.rt:131:13
 moved-requires-2 : tie.Need-moved-requires-2
 moved-requires-2 c κs = search needs
 
--- src/lib.rt:126:9
 noted-requires : tie.Need-noted-requires
 noted-requires c κs =
     let pre = c .before .before .before .before .before .before .before .before .before .before .before .before .before .before .before .before .before .before .before .before .before .before .pre in
@@ -115,19 +92,15 @@ noted-requires c κs =
       subst (λ (y : Parser). Shelving y (args .labels .now)) (sym (moved2 .ensures ∙ ap (λ (y : Parser). movedTo y (skip .result)) (moved .ensures))) (record { labels = s .labels; room = s .room; links = s .links }),
     )
 
--- src/lib.rt:126:9
 same-length-3 : tie.Need-same-length-3
 same-length-3 c = search needs
 
--- src/lib.rt:126:9
 same-length-4 : tie.Need-same-length-4
 same-length-4 c = search needs
 
--- src/lib.rt:126:9
 same-length-5 : tie.Need-same-length-5
 same-length-5 c = search needs
 
--- src/lib.rt:126:9
 returns-2 : tie.Need-returns-2
 returns-2 c rules =
     let moved2 = c .before .before .before .before .before .before .before .before .before .before .moved2 in
@@ -144,7 +117,6 @@ returns-2 c rules =
     caret-yes (sheetOf rules (args .text .now) (args .labels .now)) (args .m) (args .line .now) (args .h) (args .p) (args .queue .now) (args .openers .now) (args .labels .now) (peek .result) (peek .ensures) (moved .result) (moved .ensures)
     (noted .result) (noted .last .1 .1 .1 .1 .1 .0) (noted .last .1 .1 .1 .1 .1 .1 .0) (noted .last .1 .1 .1 .1 .1 .1 .1 .0) _ (next .given .1) (sym (is-caret .ensures ∙ ap caret-role (role-of .ensures)) ∙ if1 .taken) (nextOf (args .line .now) (peek .result .cursor)) refl (moved2 .result) at (noted .ensures rules)
 
--- src/lib.rt:137:5
 open-as-requires-2 : tie.Need-open-as-requires-2
 open-as-requires-2 c κs =
     let args = c .before .before .before .before .before .before .before .before .before .before .before .before .before .before .before .before .before .args in
@@ -153,15 +125,12 @@ open-as-requires-2 c κs =
     let pre = c .before .before .before .before .before .before .before .before .before .before .before .before .before .before .before .before .before .pre in
     peek-ready (sheetOf (rulesOf 0) (args .text .now) (args .labels .now)) (args .m) (args .line .now) (args .h) (args .p) (args .queue .now) (args .openers .now) (args .labels .now) (peek .result) (peek .ensures) (moved .result) (moved .ensures) (pre .0)
 
--- src/lib.rt:95:1
 same-length-6 : tie.Need-same-length-6
 same-length-6 c = search needs
 
--- src/lib.rt:95:1
 same-length-7 : tie.Need-same-length-7
 same-length-7 c = search needs
 
--- src/lib.rt:95:1
 returns-3 : tie.Need-returns-3
 returns-3 c rules =
     let args = c .before .before .before .before .before .before .before .before .before .before .before .before .before .before .before .before .before .before .before .before .before .before .args in

@@ -1,7 +1,7 @@
 -- `replay::compare_tokens` is safe and ends: it ends, by the count of tokens.
+use Prim.Native.Nat.{_≤_, _-_}
 use native.Mathlib.Omega.{arith}
 use borrow.Author.Needs.{needs}
-use Prim.Native.Nat.{_≤_, _-_}
 use Rattle.replay.proofs.compare_tokens.Statement.{statement}
 use Rattle.replay.proofs.compare_tokens.Tie as tie
 

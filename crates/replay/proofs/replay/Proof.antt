@@ -1,6 +1,6 @@
 -- `replay::replay` is safe and ends: no more cases than bytes, and no more differences than cases. The measure is the count of cases that may still come.
-use borrow.Author.Needs.{needs}
 use Prim.Native.Nat.{_+_, _≤_}
+use borrow.Author.Needs.{needs}
 use lib.ListN.{length}
 use Rattle.replay.proofs.replay.Statement.{statement}
 use Rattle.replay.proofs.replay.Tie as tie

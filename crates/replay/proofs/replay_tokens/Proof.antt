@@ -1,10 +1,10 @@
 -- `replay::replay_tokens` is safe and ends: the line fits its room.
-use native.Mathlib.Omega.{arith}
 use Prim.Native.Nat.{_%_}
 use mathlib.Core.Path.{sym}
+use native.Mathlib.Omega.{arith}
+use borrow.Author.Needs.{needs}
 use lib.ListN.{replicate}
 use lib.Seq.{length-take-le}
-use borrow.Author.Needs.{needs}
 use Rattle.replay.proofs.replay_tokens.Statement.{statement}
 use Rattle.replay.proofs.replay_tokens.Tie as tie
 

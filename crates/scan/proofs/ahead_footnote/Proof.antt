@@ -1,6 +1,6 @@
 -- `scan::ahead_footnote` meets its contract: what `upto` answers, at what is ahead.
-use Rattle.scan.specs.Scans.{footnoteOf}
 use borrow.Author.Needs.{needs}
+use Rattle.scan.specs.Scans.{footnoteOf}
 use Rattle.scan.proofs.ahead_footnote.Statement.{statement}
 use Rattle.scan.proofs.ahead_footnote.Tie as tie
 

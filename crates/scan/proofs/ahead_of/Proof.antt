@@ -1,10 +1,10 @@
 -- `scan::ahead_of` meets its contract: a part to the end is what is left; past the end nothing is.
-use native.Mathlib.Omega.{arith}
 use mathlib.Core.Path.{sym, _∙_}
+use native.Mathlib.Omega.{arith}
+use borrow.Author.Needs.{needs}
 use lib.ListN.{length, drop-of-length-le}
 use lib.Seq.{drop-length}
 use Rattle.classes.proofs.Parts.{part-from}
-use borrow.Author.Needs.{needs}
 use Rattle.scan.proofs.ahead_of.Statement.{statement}
 use Rattle.scan.proofs.ahead_of.Tie as tie
 

@@ -1,8 +1,8 @@
 -- `scan::ahead_raw_format` meets its contract: a law for each answer, at what is ahead.
 use mathlib.Core.Path.{ap, _∙_}
+use borrow.Author.Needs.{needs}
 use Rattle.scan.specs.Scans.{rawFormatOf}
 use Rattle.scan.proofs.Closing.{raw-none, raw-some}
-use borrow.Author.Needs.{needs}
 use Rattle.scan.proofs.ahead_raw_format.Statement.{statement}
 use Rattle.scan.proofs.ahead_raw_format.Tie as tie
 

@@ -1,6 +1,6 @@
 -- `scan::ahead_symbol` meets its contract: what `upto` answers, at what is ahead.
-use Rattle.scan.specs.Scans.{symbolOf}
 use borrow.Author.Needs.{needs}
+use Rattle.scan.specs.Scans.{symbolOf}
 use Rattle.scan.proofs.ahead_symbol.Statement.{statement}
 use Rattle.scan.proofs.ahead_symbol.Tie as tie
 

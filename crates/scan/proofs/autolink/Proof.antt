@@ -1,14 +1,14 @@
 -- `scan::autolink` meets its contract: one law for each answer.
-use native.Mathlib.Omega.{arith}
 use Prim.Native.Nat.{_-_}
 use mathlib.Core.Path.{ap, _∙_}
+use native.Mathlib.Omega.{arith}
+use borrow.Author.Needs.{needs}
 use lib.ListN.{length, take, drop, length-drop}
 use Rattle.classes.specs.declared.Set.the-variants.{Address}
 use Rattle.classes.specs.Sets.{inSet}
 use Rattle.classes.proofs.Runs.{run-within}
 use Rattle.classes.proofs.Parts.{part-from}
 use Rattle.scan.proofs.Addresses.{mark-is, autolink-miss, autolink-end, autolink-hit}
-use borrow.Author.Needs.{needs}
 use Rattle.scan.proofs.autolink.Statement.{statement}
 use Rattle.scan.proofs.autolink.Tie as tie
 

@@ -1,6 +1,6 @@
 -- `scan::closed` meets its contract: one law for each answer.
-use Rattle.scan.proofs.Closing.{closed-hit, closed-miss, closed-end}
 use borrow.Author.Needs.{needs}
+use Rattle.scan.proofs.Closing.{closed-hit, closed-miss, closed-end}
 use Rattle.scan.proofs.closed.Statement.{statement}
 use Rattle.scan.proofs.closed.Tie as tie
 

@@ -1,6 +1,6 @@
 -- `scan::upto` meets its contract: the length is the run's.
-use Rattle.scan.specs.Scans.{uptoOf}
 use borrow.Author.Needs.{needs}
+use Rattle.scan.specs.Scans.{uptoOf}
 use Rattle.scan.proofs.upto.Statement.{statement}
 use Rattle.scan.proofs.upto.Tie as tie
 

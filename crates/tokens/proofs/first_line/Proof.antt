@@ -1,7 +1,7 @@
 -- `tokens::first_line` is safe and ends: the line is within the text.
 use mathlib.Core.Path.{sym}
-use lib.Seq.{length-take-le}
 use borrow.Author.Needs.{needs}
+use lib.Seq.{length-take-le}
 use Rattle.tokens.proofs.first_line.Statement.{statement}
 use Rattle.tokens.proofs.first_line.Tie as tie
 

@@ -1,6 +1,6 @@
 -- `tokens::line_len` meets its contract: the length is never passed. The measure is what is left of the text.
-use borrow.Author.Needs.{needs}
 use Prim.Native.Nat.{_≤_, _-_}
+use borrow.Author.Needs.{needs}
 use lib.ListN.{length}
 use Rattle.tokens.proofs.line_len.Statement.{statement}
 use Rattle.tokens.proofs.line_len.Tie as tie

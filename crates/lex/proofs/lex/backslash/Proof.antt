@@ -1,6 +1,6 @@
 -- `lex::lex::backslash` meets its contract: the test of the second byte is the definition's.
-use Rattle.lex.specs.Lexer.{begunBy}
 use borrow.Author.Needs.{needs}
+use Rattle.lex.specs.Lexer.{begunBy}
 use Rattle.lex.proofs.lex.backslash.Statement.{statement}
 use Rattle.lex.proofs.lex.backslash.Tie as tie
 

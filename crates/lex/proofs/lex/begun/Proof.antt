@@ -1,8 +1,8 @@
 -- `lex::lex::begun` meets its contract: each arm's callee answers what its start begins.
 use mathlib.Core.Path.{_∙_}
+use borrow.Author.Needs.{needs}
 use Rattle.lex.specs.Lexer.{begunBy}
 use Rattle.lex.proofs.Begun.{begun-by, begun-text, begun-run}
-use borrow.Author.Needs.{needs}
 use Rattle.lex.proofs.lex.begun.Statement.{statement}
 use Rattle.lex.proofs.lex.begun.Tie as tie
 

@@ -1,12 +1,12 @@
 -- `lex::lex::brace` meets its contract: an arm with a number computes at that number; the last passes each row of the table.
 use Prim.Native.Nat.{ℕ}
 use mathlib.Core.Path.{sym, ap, _∙_}
+use borrow.Author.Needs.{needs}
 use Rattle.lex.specs.declared.lex.Token.{Token}
 use Rattle.lex.specs.declared.lex.Kind.the-variants.{Open}
 use Rattle.lex.specs.declared.lex.Delimiter.the-variants.{Brace}
 use Rattle.lex.specs.Lexer.{token, lookup, braces, begunBy}
 use Rattle.lex.proofs.Tables.{lookup-miss, lookup-none}
-use borrow.Author.Needs.{needs}
 use Rattle.lex.proofs.lex.brace.Statement.{statement}
 use Rattle.lex.proofs.lex.brace.Tie as tie
 

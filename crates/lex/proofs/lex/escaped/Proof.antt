@@ -1,10 +1,10 @@
 -- `lex::lex::escaped` meets its contract: one law for each answer.
 use native.Mathlib.Omega.{arith}
+use borrow.Author.Needs.{needs}
 use Rattle.classes.specs.declared.Set.the-variants.{SpaceTab}
 use Rattle.classes.specs.Sets.{inSet}
 use Rattle.classes.proofs.Runs.{run-within}
 use Rattle.lex.proofs.Begun.{escaped-newline, escaped-break, escaped-space, escaped-text}
-use borrow.Author.Needs.{needs}
 use Rattle.lex.proofs.lex.escaped.Statement.{statement}
 use Rattle.lex.proofs.lex.escaped.Tie as tie
 

@@ -1,6 +1,6 @@
 -- `lex::lex::hyphens` meets its contract: one law for each answer.
-use Rattle.lex.proofs.Begun.{hyphens-run, hyphens-close, hyphens-stop}
 use borrow.Author.Needs.{needs}
+use Rattle.lex.proofs.Begun.{hyphens-run, hyphens-close, hyphens-stop}
 use Rattle.lex.proofs.lex.hyphens.Statement.{statement}
 use Rattle.lex.proofs.lex.hyphens.Tie as tie
 

@@ -1,10 +1,10 @@
 -- `lex::lex::join` meets its contract: `Joining` holds at the loop's head. The measure is what is left of the line: a token is at least one byte.
-use borrow.Author.Needs.{needs}
-use borrow.Author.Tests.{not-true, not-false}
-use native.Mathlib.Omega.{arith}
 use Prim.Native.Nat.{_-_}
 use mathlib.Core.Path.{refl, sym, _∙_}
 use mathlib.Core.Bool.{false}
+use native.Mathlib.Omega.{arith}
+use borrow.Author.Needs.{needs}
+use borrow.Author.Tests.{not-true, not-false}
 use lib.ListN.{length, drop, length-drop}
 use Rattle.lex.proofs.Bounds.{lexed-sized}
 use Rattle.lex.proofs.Texts.{Joining, joined-end, joined-other, joined-more}

@@ -1,7 +1,7 @@
 -- `lex::lex::peek_byte_n` meets its contract: past the end the definition has 0 too.
 use mathlib.Core.Path.{sym}
-use lib.ListN.{List·getD-eq-default}
 use borrow.Author.Needs.{needs}
+use lib.ListN.{List·getD-eq-default}
 use Rattle.lex.proofs.lex.peek_byte_n.Statement.{statement}
 use Rattle.lex.proofs.lex.peek_byte_n.Tie as tie
 

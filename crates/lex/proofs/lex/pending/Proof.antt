@@ -1,18 +1,18 @@
 -- `lex::lex::pending` meets its contract: no other kind is Escape.
-use Rattle.lex.specs.declared.lex.Kind.{Kind}
-use Rattle.lex.specs.declared.lex.Kind.the-variants.{Text, Newline, Nbsp, Hardbreak, Escape, Open, Close, Sym, Seq}
-use Rattle.lex.proofs.lex.Kind.{the-type}
-use types.Run.{OneOf, miss}
-use denote.Enum.Declared.{tagOf}
 use mathlib.Core.Path.{_≡_, refl}
 use mathlib.Core.List.{[], _∷_}
 use mathlib.Core.Bool.{false}
-use Rattle.lex.specs.Lexer.{isEscape}
 use borrow.Author.Needs.{needs}
+use Rattle.lex.specs.declared.lex.Kind.{Kind}
+use Rattle.lex.specs.declared.lex.Kind.the-variants.{Text, Newline, Nbsp, Hardbreak, Escape, Open, Close, Sym, Seq}
+use types.Run.{OneOf, miss}
+use denote.Enum.Declared.{tagOf}
+use Rattle.lex.specs.Lexer.{isEscape}
+use Rattle.lex.proofs.lex.Kind.{the-type}
 use Rattle.lex.proofs.lex.pending.Statement.{statement}
 use Rattle.lex.proofs.lex.pending.Tie as tie
 
-other : (k : Kind) → OneOf (0 ∷ 1 ∷ 2 ∷ 3 ∷ 5 ∷ 6 ∷ 7 ∷ 8 ∷ []) (tagOf the-type k) → _≡_ (isEscape k) false
+other : (k : Kind) → OneOf (0 ∷ 1 ∷ 2 ∷ 3 ∷ 5 ∷ 6 ∷ 7 ∷ 8 ∷ []) (tagOf the-type k) → isEscape k ≡ false
 other Text h = refl
 other Newline h = refl
 other Nbsp h = refl

@@ -1,8 +1,7 @@
 -- `lex::lex::start_of` meets its contract: an arm with a number computes at that number; the last passes each row of the table.
-use mathlib.Core.Path.{_∙_}
-use Rattle.lex.proofs.Tables.{lookup-miss, lookup-none}
-use mathlib.Core.Path.{sym, ap}
+use mathlib.Core.Path.{_∙_, sym, ap}
 use Rattle.lex.specs.Lexer.{lookup, starts, startOf}
+use Rattle.lex.proofs.Tables.{lookup-miss, lookup-none}
 use Rattle.lex.proofs.lex.start_of.Statement.{statement}
 use Rattle.lex.proofs.lex.start_of.Tie as tie
 

@@ -16,9 +16,11 @@ use prog.Wp.{Heap, Calls, Loops, WpFn, Tables}
 use ghost.Atoms.{Atoms, sem}
 use contract.Monad.{Fun, fact}
 use contract.Running.{givenOf, tables, tablesOf}
-use types.Kit.{Given, ‵, raw, _⊛_, ⋆, some, later, _$_, _∵_, !, qed, by, move, drop, use0, use1, split, join, pick, fsplit, fjoin, suffices, frame, await, done}
+use types.Kit.{Given, ‵, raw, _⊛_, ⋆, some, later, _$_, _∵_, !, qed, by, move, drop, use0, use1, split, join, pick, fsplit, fjoin, suffices, frame}
+use types.Kit.{await, done}
 use types.Part.{agg}
-use types.Run.{look, init, forget, stop, from, load, lit, false-lit, and-then, no-more, assigns, land, returns, enter, alloc1, alloc0, params1, pass1, pass0, free1, free0}
+use types.Run.{look, init, forget, stop, from, load, lit, false-lit, and-then, no-more, assigns, land, returns, enter, alloc1, alloc0, params1, pass1}
+use types.Run.{pass0, free1, free0}
 use sound.WpLaws.{FmC, fmOf, WpFn-mono}
 use denote.RattleType.{owns}
 use denote.Laws.{Is, shows}
@@ -30,7 +32,6 @@ use denote.Slice.{ShrSlice, slice-vals, shr-slice-tells, shr-slice-lawful, shr-s
 use denote.Steps.{nothing, owned, peeks, heard}
 use denote.Struct.Laws as LL
 use denote.Struct.Rest.{own-shut}
-use denote.Triple.Statement.{Contract, Triple}
 use denote.Triple.Call.{calls-at}
 use denote.Triple.Entry.{Vals, onEntry}
 use denote.Triple.Spec.{Meets, tripleOf}
@@ -52,6 +53,7 @@ use Rattle.lexer.proofs.Lexer.new.Key.{name as #lexer·new}
 use Rattle.lexer.proofs.Lexer.new as new
 use Rattle.lexer.proofs.Lexer.new.Statement as stated
 use Rattle.lexer.proofs.Lexer.new.Code as code
+use denote.Triple.Statement.{Contract, Triple}
 
 abbrev stayed : Stays (new.ended .signature .params) (new.ended .kept)
 stayed = (stay-none-slice (0 ∷ []) tt (plain (λ _. u8)) yes, tt)

@@ -1,7 +1,7 @@
 -- `lex::lex::Cursor::next` meets its contract: by whether a token is held.
 use mathlib.Core.Path.{_∙_}
-use Rattle.lex.proofs.Walk.{next-held, next-free}
 use borrow.Author.Needs.{needs}
+use Rattle.lex.proofs.Walk.{next-held, next-free}
 use Rattle.lex.proofs.lex.Cursor.next.Statement.{statement}
 use Rattle.lex.proofs.lex.Cursor.next.Tie as tie
 

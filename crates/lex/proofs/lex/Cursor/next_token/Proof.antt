@@ -1,11 +1,11 @@
 -- `lex::lex::Cursor::next_token` meets its contract: what is lexed at the place, taken apart as the definition does.
+use mathlib.Core.Path.{sym, ap, _∙_}
 use native.Mathlib.Omega.{arith}
 use borrow.Author.Tests.{not-true, not-false}
-use mathlib.Core.Path.{sym, ap, _∙_}
+use borrow.Author.Needs.{needs}
 use Rattle.lex.specs.declared.lex.Joined.{Joined}
 use Rattle.lex.specs.Lexer.{joinedOf}
 use Rattle.lex.proofs.Walk.{found-none, found-sized, found-other, found-joined}
-use borrow.Author.Needs.{needs}
 use Rattle.lex.proofs.lex.Cursor.next_token.Statement.{statement}
 use Rattle.lex.proofs.lex.Cursor.next_token.Tie as tie
 

@@ -1,6 +1,6 @@
 -- `lex::lex::Cursor::peek` meets its contract: by whether a token is held.
-use Rattle.lex.proofs.Walk.{peek-held, peek-free}
 use borrow.Author.Needs.{needs}
+use Rattle.lex.proofs.Walk.{peek-held, peek-free}
 use Rattle.lex.proofs.lex.Cursor.peek.Statement.{statement}
 use Rattle.lex.proofs.lex.Cursor.peek.Tie as tie
 

@@ -1,8 +1,8 @@
 -- `lex::lex::Cursor::skip` meets its contract: by whether a token is held.
 use mathlib.Core.Path.{ap, _∙_}
+use borrow.Author.Needs.{needs}
 use Rattle.lex.specs.declared.lex.Lexed.{Lexed}
 use Rattle.lex.proofs.Walk.{next-held, next-free}
-use borrow.Author.Needs.{needs}
 use Rattle.lex.proofs.lex.Cursor.skip.Statement.{statement}
 use Rattle.lex.proofs.lex.Cursor.skip.Tie as tie
 

@@ -1,8 +1,8 @@
 -- `lex::lex::Cursor::take` meets its contract: a held token within the line is taken, and another is none.
 use mathlib.Core.Path.{sym}
-use Rattle.lex.proofs.Walk.{taken-in, taken-out}
 use native.Mathlib.Omega.{arith}
 use borrow.Author.Needs.{needs}
+use Rattle.lex.proofs.Walk.{taken-in, taken-out}
 use Rattle.lex.proofs.lex.Cursor.take.Statement.{statement}
 use Rattle.lex.proofs.lex.Cursor.take.Tie as tie
 

@@ -1,6 +1,6 @@
 -- `lex::lex::Cursor::token` meets its contract: the part from the place on is what is left of the line.
-use Rattle.lex.proofs.Front.{at-end, at-escaped, at-begun}
 use borrow.Author.Needs.{needs}
+use Rattle.lex.proofs.Front.{at-end, at-escaped, at-begun}
 use Rattle.lex.proofs.lex.Cursor.token.Statement.{statement}
 use Rattle.lex.proofs.lex.Cursor.token.Tie as tie
 
