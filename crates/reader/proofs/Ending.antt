@@ -1,6 +1,6 @@
 -- What stands in the rooms at the end: cleared ones, events and labels from the front; and the label room that counts.
 use Prim.Native.Nat.{ℕ, _+_, _-_, _*_, _/_, _^_, _≤_, _<_}
-use mathlib.Core.Path.{_≡_, refl, sym, ap, _∙_}
+use mathlib.Core.Path.{_≡_, refl, sym, ap, _∙_, subst}
 use mathlib.Core.List.{List, [], _∷_, _++_, append-nil}
 use mathlib.Core.Bool.{Bool, true, false}
 use native.Mathlib.Numerals.{add-one}
@@ -17,19 +17,20 @@ use Rattle.reading.specs.declared.Refused.the-variants as refused
 use Rattle.reading.specs.Machine.{State}
 use Rattle.reading.specs.Draining.{drain}
 use Rattle.reading.specs.Reading.{sheet, read}
-use Rattle.reading.specs.Questions.{total, counting, label-room, zeros, filled, numbers, refuses, cleared, handed-out, judged}
+use Rattle.reading.specs.Questions.{Rooms, total, counting, label-room, zeros, filled, numbers, refuses, cleared, handed-out, judged}
 use Rattle.reading.proofs.Theorems.{end-room, room, rising}
 use Rattle.rooms.specs.declared.Parser.{Parser}
 use Rattle.rooms.specs.Records.{events, eventAt}
 use Rattle.rooms.proofs.Rows.{rows-length}
 use Rattle.inline.specs.Asks.{Sheeted, StandsFor}
 use Rattle.inline.proofs.Begins.{rising-total}
+use Rattle.drain.specs.declared.Drained.{Drained}
 use Rattle.drain.specs.declared.Drained.the-variants.{All, Full}
 use Rattle.drain.specs.Handing.{answered, handed}
 use Rattle.drain.proofs.Handing.{answered-count, answered-too-many, handed-all}
 use Rattle.drain.proofs.Pouring.{numbers-length}
 use Rattle.reader.specs.Asking.{Passed, refusal}
-use Rattle.reader.specs.Telling.{lent, told, kept, accepts, Parsed}
+use Rattle.reader.specs.Telling.{lent, told, kept, accepts, drainedAs, Counted, Parsed}
 
 -- a room whose first i numbers are cleared
 pub record Clearing (room₀ room : List ℕ) (i : ℕ) : Type 0 where
@@ -67,6 +68,21 @@ kept-all n room part h e =
     let t : length (take (length room - n) (drop n room)) ≡ length room - n = length-take-le (length room - n) (drop n room) (omega (arith, d)) in
     ap (λ (m : List ℕ). take n room ++ m) (ap (λ (m : List ℕ). part ++ m) z ∙ append-nil part ∙ e ∙ ap (λ (k : ℕ). replicate k 0) t)
 
+-- what is counted of an answer that all were handed out
+pub counted-all : (d : Drained) (count bytes : ℕ) (e l : List ℕ) → Counted d bytes e l → d ≡ All count
+    → (count * 7 ≤ length e) × (count < 2 ^ 32) × (bytes ≤ length l) × (bytes < 2 ^ 32)
+unfolding Counted
+counted-all d count bytes e l h k = subst (λ (z : Drained). Counted z bytes e l) k h
+
+-- the outcome of each answer
+pub drained-all : (d : Drained) (count bytes : ℕ) (rooms : Rooms) → d ≡ All count → accepts count bytes rooms ≡ drainedAs d bytes rooms
+unfolding drainedAs
+drained-all d count bytes rooms k = sym (ap (λ (z : Drained). drainedAs z bytes rooms) k)
+
+pub drained-full : (d : Drained) (bytes : ℕ) (rooms : Rooms) → d ≡ Full → refuses 9 0 (cleared rooms) ≡ drainedAs d bytes rooms
+unfolding drainedAs
+drained-full d bytes rooms k = sym (ap (λ (z : Drained). drainedAs z bytes rooms) k)
+
 module _ (e q o l : List ℕ) where
   -- a refusal under 7 to 9
   pub refused-all : (code place : ℕ) (r : Answer) (e' q' o' l' : List ℕ) → r ≡ refusal code place → e' ≡ zeros e → q' ≡ zeros q → o' ≡ zeros o → l' ≡ zeros l
@@ -83,7 +99,7 @@ module _ (e q o l : List ℕ) where
 
   module _ (es : List Event) (e₁ : List ℕ) (given : e₁ ≡ handed es e) (ls : List ℕ) where
     -- the events fit
-    pub handed-fit : (count bytes : ℕ) → ls ≡ take bytes l → bytes ≤ length l → All count ≡ answered (length es) (length e / 7)
+    handed-fit : (count bytes : ℕ) → ls ≡ take bytes l → bytes ≤ length l → All count ≡ answered (length es) (length e / 7)
         → (count * 7 ≤ length e₁) × (count ≡ length es) × (accepts count bytes (lent e₁ q o l) ≡ handed-out es ls (lent e q o l))
     unfolding handed-out
     handed-fit count bytes f b a =
@@ -112,10 +128,23 @@ module _ (e q o l : List ℕ) where
         )
 
     -- they do not
-    pub handed-full : Full ≡ answered (length es) (length e / 7) → length e₁ ≡ length e
+    handed-full : Full ≡ answered (length es) (length e / 7) → length e₁ ≡ length e
         → refuses 9 0 (cleared (lent e₁ q o l)) ≡ handed-out es ls (lent e q o l)
     unfolding handed-out
     handed-full a u = rw (answered-too-many (length es) (length e / 7) (sym a), u, handed-out)
+
+    -- what draining answers is counted, and says what is handed out
+    module _ (bytes : ℕ) (f : ls ≡ take bytes l) (b : bytes ≤ length l) where
+      pub counted-out : (d : Drained) → d ≡ answered (length es) (length e / 7) → length es < 2 ^ 32 → bytes < 2 ^ 32 → Counted d bytes e₁ l
+      unfolding Counted
+      counted-out (All count) a few small = let h = handed-fit count bytes f b a in (h .0, omega (arith, h .1, few), b, small)
+      counted-out Full a few small = tt
+
+      pub drained-out : (d : Drained) → d ≡ answered (length es) (length e / 7) → length e₁ ≡ length e
+          → drainedAs d bytes (lent e₁ q o l) ≡ handed-out es ls (lent e q o l)
+      unfolding drainedAs
+      drained-out (All count) a u = handed-fit count bytes f b a .2
+      drained-out Full a u = handed-full a u
 
 -- the last questions look at no number of the queue, opener and label rooms
 pub judged-lent : (r : Refused) (f : Bool) (s : State) (e q o l q' o' l' : List ℕ) → length q' ≡ length q → length o' ≡ length o → length l' ≡ length l

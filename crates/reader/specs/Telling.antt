@@ -8,9 +8,11 @@ use Rattle.reading.specs.declared.Answer.{Answer}
 use Rattle.reading.specs.declared.Refused.{Refused}
 use Rattle.reading.specs.declared.Refused.the-variants as refused
 use Rattle.reading.specs.Draining.{drain}
-use Rattle.reading.specs.Questions.{Rooms, Outcome, zeros}
+use Rattle.reading.specs.Questions.{Rooms, Outcome, zeros, refuses, cleared}
 use Rattle.rooms.specs.declared.Parser.{Parser}
 use Rattle.rooms.specs.Records.{events}
+use Rattle.drain.specs.declared.Drained.{Drained}
+use Rattle.drain.specs.declared.Drained.the-variants as drained
 use Rattle.reader.specs.declared.Brace.{Brace}
 
 -- the four rooms, as they are lent
@@ -29,6 +31,16 @@ abbrev pub accepts : ℕ → ℕ → Rooms → Outcome
 accepts count bytes rooms =
     told (record { code = 0; place = 0; events = count; labels = bytes }) (kept (count * 7) (rooms .events)) (zeros (rooms .queue)) (zeros (rooms .openers))
     (kept bytes (rooms .labels))
+
+-- 9, by what draining answers, with the rooms as it leaves them: all events stand in the event room, so many; or they are more than it holds
+unfoldable pub drainedAs : Drained → ℕ → Rooms → Outcome
+drainedAs (drained.All count) bytes rooms = accepts count bytes rooms
+drainedAs drained.Full bytes rooms = refuses 9 0 (cleared rooms)
+
+-- counts that are of their rooms, and fit 32 bits
+unfoldable pub Counted : Drained → ℕ → List ℕ → List ℕ → Type 0
+Counted (drained.All count) bytes e l = (count * 7 ≤ length e) × (count < 2 ^ 32) × (bytes ≤ length l) × (bytes < 2 ^ 32)
+Counted drained.Full bytes e l = Unit {0}
 
 -- whether a bare opening brace was met outside verbatim, and where the first stands
 unfoldable pub braceOf : Refused → Brace

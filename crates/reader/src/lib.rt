@@ -15,7 +15,7 @@ ghost use Rattle.inline.specs.Asks.{StandsFor};
 ghost use Rattle.reader.specs.Asking.{limit, linesSaid, lack, askedLines, askedOf, earlyOf, lineOf, endedOf, Passed, Small};
 ghost use Rattle.reader.specs.Asking.{refusal as refusal-of};
 ghost use Rattle.reader.specs.Lookup.{withinOf, homeIn, labelOf, standsIn};
-ghost use Rattle.reader.specs.Telling.{lent, told, kept, accepts, braceOf, codeOf, Parsed};
+ghost use Rattle.reader.specs.Telling.{lent, told, kept, accepts, drainedAs, Counted, braceOf, codeOf, Parsed};
 use drain::Drained;
 use reading::Answer;
 use reading::Place;
@@ -358,6 +358,25 @@ fn accept(
     }
 }
 
+// What comes of the events handed out.
+fn conclude(
+    drained: Drained,
+    bytes: usize,
+    events: &mut [u32],
+    queue: &mut [u32],
+    openers: &mut [u32],
+    labels: &mut [u8],
+) -> Answer
+    requires { ⌜ Counted drained bytes (now events) (now labels) ⌝ }
+    ensures { λ r. ⌜ told r (now (events .exit)) (now (queue .exit)) (now (openers .exit)) (now (labels .exit)) ≡ drainedAs drained bytes (lent (now
+        (events .entry)) (now (queue .entry)) (now (openers .entry)) (now (labels .entry))) ⌝ }
+{
+    match drained {
+        Drained::All(count) => accept(count, bytes, events, queue, openers, labels),
+        Drained::Full => refuse(9, 0, events, queue, openers, labels),
+    }
+}
+
 // 9: does the event room hold all the events?
 fn hand_out(
     p: Parser,
@@ -375,10 +394,7 @@ fn hand_out(
     let n = p.events;
     let bytes = p.labels;
     let drained = drain::drain(queue, n, events);
-    match drained {
-        Drained::All(count) => accept(count, bytes, events, queue, openers, labels),
-        Drained::Full => refuse(9, 0, events, queue, openers, labels),
-    }
+    conclude(drained, bytes, events, queue, openers, labels)
 }
 
 // The first bare opening brace outside verbatim, as numbers.
