@@ -82,6 +82,7 @@ pub struct Laws {
     open: Vec<[u32; 7]>,
     gone: Vec<usize>,
     covered: Vec<u8>,
+    shown: Vec<bool>,
 }
 
 impl Laws {
@@ -91,15 +92,21 @@ impl Laws {
         self.gone.clear();
         self.covered.clear();
         self.covered.resize(sheet.text.len(), 0);
+        self.shown.clear();
+        self.shown.resize(sheet.text.len(), false);
         let mut before = 0;
         for e in events {
-            let [_, start, end, ..] = *e;
+            let [kind, start, end, ..] = *e;
             if start > end || start < before || end as usize > sheet.text.len() {
                 return Some(format!("span {start}..{end} after {before}"));
             }
             before = end;
             for under in &mut self.covered[start as usize..end as usize] {
                 *under += 1;
+            }
+            // The exit of a link also goes over its destination.
+            if !(76..=79).contains(&kind) {
+                self.shown[start as usize..end as usize].fill(true);
             }
             if let Some(wrong) = self.walk(sheet, reading, e) {
                 return Some(wrong);
@@ -111,7 +118,7 @@ impl Laws {
         if events.len() > sheet.fed() + 1 {
             return Some(format!("{} events", events.len()));
         }
-        self.uncovered(sheet)
+        self.uncovered(sheet).or_else(|| self.foreign(sheet))
     }
 
     /// One event: an exit closes the last one open. What a verbatim drops is noted.
@@ -152,5 +159,13 @@ impl Laws {
             }
         }
         None
+    }
+
+    /// Only bytes of a line are shown.
+    fn foreign(&mut self, sheet: &Sheet) -> Option<String> {
+        for (start, end) in sheet.lines() {
+            self.shown[start..end].fill(false);
+        }
+        self.shown.iter().position(|&s| s).map(|p| format!("byte {p} is of no line, and is shown"))
     }
 }

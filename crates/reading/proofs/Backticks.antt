@@ -46,7 +46,7 @@ unfoldable pub Shows : List ℕ → View → Type 0
 Shows text v = (j : ℕ) → j < length (v .bytes) → getD (v .bytes) j 0 ≡ getD text (v .base + j) 0
 
 -- the dollars that a run takes lie in the Str before it
-taken-ends : (l : Last) (at : ℕ) (q : List Event) → LastOk l q → (taken l at ≡ 0) ⊎ Ends (taken l at) at q
+pub taken-ends : (l : Last) (at : ℕ) (q : List Event) → LastOk l q → (taken l at ≡ 0) ⊎ Ends (taken l at) at q
 unfolding taken
 taken-ends l at q ok =
     choose (λ (n : ℕ). (n ≡ 0) ⊎ Ends n at q) (eqb (l .end .0) at) _ _
@@ -144,7 +144,7 @@ raw-wraps : (h : Home) → Wraps (walk-by (enter raw-format) h) (walk-by (enter 
 unfolding walk-by
 raw-wraps h = wraps-match _
 
-cut-amend : (w : Verbatim) (f : Event → Event) (q : List Event) → w .event < w .keep → cut w (amend f (w .event) q) ≡ cut w q
+pub cut-amend : (w : Verbatim) (f : Event → Event) (q : List Event) → w .event < w .keep → cut w (amend f (w .event) q) ≡ cut w q
 unfolding cut
 cut-amend w f q l = choose₂ (λ (a b : List Event). a ≡ b) (w .run) _ _ _ _ (λ e. drop-amend f (w .event) (w .keep) q l) (λ e. refl)
 

@@ -222,7 +222,7 @@ module _ (Loose : ℕ → Type 0) (text : List ℕ) where
       close-fine x (makes.Link t) e ok =
           fine-at Loose text v m (suc (h .from)) (h .to) (omega (arith, k .long)) _ _ behind-sound behind-place
           (good-out _ _ _ no
-          (link-then (t .container) (labelled x v h (t .inline) o rest) (ok _) (parts-close (walks (s .queue)) o os (makes.Link t) e p)))
+          (link-then (t .container) (labelled x v h (t .inline) o rest) (ok .1 _) (parts-close (walks (s .queue)) o os (makes.Link t) e p)))
 
     alone-fine : (mk : Marks) → MarksOk mk → Fine Loose text v m (suc (h .from)) (record { cursor = h .cursor; state = opens-or v h (mk .alone) (mk .opens) s })
     alone-fine mk ok =

@@ -13,7 +13,7 @@ use lib.ListN.{length}
 use Rattle.classes.specs.Classes.{bit}
 use Rattle.reading.specs.declared.Event.{Event}
 use Rattle.reading.specs.Events.{homeOf, str}
-use Rattle.reading.specs.Draining.{flushed, drained}
+use Rattle.reading.specs.Draining.{flushed, touches, drained}
 use Rattle.reading.specs.Walked.{Tag, Walk, opening, closing, neither, walk-by, walk-of, Matches, Ordered, under}
 use Rattle.reading.proofs.Choose.{choose}
 use Rattle.reading.proofs.Spans.{Gap, Covers, gap-none, covers-before}
@@ -33,12 +33,12 @@ unfolding drained
 drained-few a b [] = (flushed-few a b [], rw (flushed-none b []) (omega arith))
 drained-few a b (e ∷ es) = (
   choose (λ (l : List Event). length l ≤ suc (suc (length es))) (eqb (e .kind) str) _ _
-      (λ x. choose (λ (l : List Event). length l ≤ suc (suc (length es))) (eqb b (e .start .0)) _ _
+      (λ x. choose (λ (l : List Event). length l ≤ suc (suc (length es))) (touches b e) _ _
       (λ y. omega (arith, drained-few a (e .end .0) es .0))
       (λ y. omega (arith, flushed-few a b (drained (e .start .0) (e .end .0) es), drained-few (e .start .0) (e .end .0) es .0)))
       (λ x. omega (arith, flushed-few a b (e ∷ drained (e .end .0) (e .end .0) es), drained-few 0 (e .end .0) es .1)),
   choose (λ (l : List Event). length l ≤ suc (length es)) (eqb (e .kind) str) _ _
-      (λ x. choose (λ (l : List Event). length l ≤ suc (length es)) (eqb b (e .start .0)) _ _
+      (λ x. choose (λ (l : List Event). length l ≤ suc (length es)) (touches b e) _ _
       (λ y. drained-few b (e .end .0) es .0)
       (λ y. rw (flushed-none b (drained (e .start .0) (e .end .0) es)) (drained-few (e .start .0) (e .end .0) es .0)))
       (λ x. rw (flushed-none b (e ∷ drained (e .end .0) (e .end .0) es)) (omega (arith, drained-few 0 (e .end .0) es .1))),
@@ -65,7 +65,7 @@ unfolding drained
 drained-walk a b [] ts m = flushed-walk a b [] ts m
 drained-walk a b (e ∷ es) ts m =
     choose (λ (l : List Event). Matches (walks l) ts) (eqb (e .kind) str) _ _
-    (λ x. choose (λ (l : List Event). Matches (walks l) ts) (eqb b (e .start .0)) _ _
+    (λ x. choose (λ (l : List Event). Matches (walks l) ts) (touches b e) _ _
     (λ y. drained-walk a (e .end .0) es ts (str-walk e (walks es) ts x m))
     (λ y. flushed-walk a b _ ts (drained-walk (e .start .0) (e .end .0) es ts (str-walk e (walks es) ts x m))))
     (λ x.
@@ -88,7 +88,7 @@ module _ (Loose : ℕ → Type 0) where
   drained-covers p a b [] c g l h = flushed-covers p a b [] c g l h
   drained-covers p a b (e ∷ es) c g l h =
       choose (λ (f : List Event). Covers Loose p f c) (eqb (e .kind) str) _ _
-      (λ x. choose (λ (f : List Event). Covers Loose p f c) (eqb b (e .start .0)) _ _
+      (λ x. choose (λ (f : List Event). Covers Loose p f c) (touches b e) _ _
       (λ y. drained-covers p a (e .end .0) es c g (omega (arith, h .0 .up, h .1, l)) (h .2))
       (λ y. flushed-covers p a b _ c g l (drained-covers b (e .start .0) (e .end .0) es c (h .0) (h .1) (h .2))))
       (λ x.

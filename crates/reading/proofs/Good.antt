@@ -1,12 +1,12 @@
 -- The invariant of a reading, outside and inside verbatim, and what each change of the state makes of it. `at` is the place up to which the
 -- queue's spans go, and n bounds the bytes of the lines up to there.
 use Prim.Native.Nat.{ℕ, suc, _+_, _-_, _≤_, _<_}
-use mathlib.Core.Path.{_≡_, refl}
+use mathlib.Core.Path.{_≡_, refl, sym, subst}
 use mathlib.Core.List.{List, [], _∷_, _++_, map, map-append}
-use mathlib.Core.Bool.{true, _&&_, and-eq-true-iff}
+use mathlib.Core.Bool.{true, false, _&&_, and-eq-true-iff}
 use mathlib.Core.Logic.{_⊎_, inl, inr}
 use native.Mathlib.Omega.{arith}
-use borrow.Author.Tests.{ltb-true, lt-ltb}
+use borrow.Author.Tests.{eqb-true, ltb-true, lt-ltb}
 use lib.Dec.{eqb, ltb}
 use lib.ListN.{length, getD, drop, length-append}
 use Rattle.classes.specs.Classes.{blank}
@@ -18,7 +18,7 @@ use Rattle.reading.specs.declared.Inside.{Inside}
 use Rattle.reading.specs.declared.Inside.the-variants as inside
 use Rattle.reading.specs.Events.{Home, event, str}
 use Rattle.reading.specs.Machine.{View, State, dollar, dollarsOf, lastOf, puts, put, with-openers}
-use Rattle.reading.specs.Walked.{neither, walk-by, Of, walk-of}
+use Rattle.reading.specs.Walked.{neither, walk-by, link-exit, Of, walk-of}
 use Rattle.reading.proofs.Removed.{span-of}
 use Rattle.reading.proofs.Choose.{choose}
 use Rattle.reading.proofs.Matching.{Still, still-nil, still-neither, Parts, parts-append}
@@ -42,15 +42,24 @@ pub record Ends (n at : ℕ) (q : List Event) : Type 0 where
   pub parted : q ≡ front ++ it ∷ []
   pub wide : it .start .0 + n ≤ it .end .0
   pub ends : it .end .0 ≡ at
+  pub shown : link-exit (it .kind) ≡ false
 
 abbrev pub LastOk : Last → List Event → Type 0
 LastOk l q = (l .dollars ≡ 0) ⊎ Ends (l .dollars) (l .end .0) q
 
 pub last-put : (v : View) (kind i j : ℕ) (q : List Event) → i ≤ j → LastOk (lastOf v kind i j) (q ++ event kind (v .base + i) (v .base + j) ∷ [])
-unfolding lastOf
+unfolding lastOf link-exit
 last-put v kind i j q h =
     choose (λ (l : Last). LastOk l (q ++ event kind (v .base + i) (v .base + j) ∷ [])) (eqb kind str) _ _
-    (λ e. inr record { front = q; it = event kind (v .base + i) (v .base + j); parted = refl; wide = omega (arith, dollars-within v i j h); ends = refl })
+    (λ e.
+    inr record {
+      front = q;
+      it = event kind (v .base + i) (v .base + j);
+      parted = refl;
+      wide = omega (arith, dollars-within v i j h);
+      ends = refl;
+      shown = subst (λ (k : ℕ). link-exit k ≡ false) (sym (eqb-true kind str e)) refl;
+    })
     (λ e. inl refl)
 
 -- every byte under some events is blank

@@ -19,6 +19,7 @@ pub mod Links
 pub mod Braces
 pub mod Drains
 pub mod Feeding
+pub mod Hidden
 pub mod Dropping
 pub mod Alike
 pub mod Theorems

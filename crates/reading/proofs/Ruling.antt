@@ -1,9 +1,10 @@
--- The rules of a token, gone through once, for two sheets side by side. They leave four sides of the state as they were: the refusal, the open verbatim, the
--- count of links and whether all labels fitted. Three do not: a link that closes, a run that opens a verbatim, a bare brace. Of these it is to be told.
-use Prim.Native.Nat.{ℕ, _+_, _-_}
+-- The rules of a token, gone through once, for two sheets side by side (`by-rule`). All but three leave four sides of the state as they were: the refusal, the
+-- open verbatim, the count of links and whether all labels fitted. The three are a link that closes, a run that opens a verbatim, a bare brace (`ruled`).
+use Prim.Native.Nat.{ℕ, _+_, _-_, _≤_}
 use mathlib.Core.Path.{_≡_, refl}
 use mathlib.Core.List.{List, [], _∷_}
 use mathlib.Core.Bool.{Bool}
+use native.Mathlib.Omega.{arith}
 use lib.Dec.{leb, ltb}
 use lib.ListN.{drop}
 use Rattle.lex.specs.declared.lex.Token.{Token}
@@ -28,8 +29,10 @@ use Rattle.reading.specs.declared.Inside.{Inside}
 use Rattle.reading.specs.declared.Refused.{Refused}
 use Rattle.reading.specs.declared.DelimEventKind.{DelimEventKind}
 use Rattle.reading.specs.declared.DelimEventKind.the-variants as makes
-use Rattle.reading.specs.Events.{str}
-use Rattle.reading.specs.Machine.{View, Rules, Sheet, State, Turn, Here, with-openers}
+use Rattle.dash.specs.Dashes.{dashesOf}
+use Rattle.reading.specs.Events.{str, symbol, footnote}
+use Rattle.reading.specs.Machine.{View, Rules, Sheet, State, Turn, Here, puts, no-str, with-openers}
+use Rattle.reading.specs.Atoms.{dashes, dots, autolinked, named}
 use Rattle.reading.specs.Tokens.{role-of, is-caret, closing-of, plain, bracket}
 use Rattle.reading.specs.Verbatim.{opens-verbatim, closes, closed-with, all-blank, bytes-of, skips, blank-content, in-verbatim}
 use Rattle.reading.specs.Containers.{Along, along, by-itself, seek, may-close, takes, span-with, closes-span, close-as, may-open, opens-or}
@@ -83,7 +86,64 @@ module _ (v : View) (h : Here) (s : State) where
       go by-itself = refl
       go (along inline) = refl
 
--- P is of the turns that two sheets x and y make of a state
+-- P is of the turns that two sheets x and y make of a state, at a token that stands as `At` says. It is to be told of what stands alone or opens, of what closes
+-- an opener that was sought, of what the scans accept, of periods and hyphens, of a run that opens a verbatim, and of a bare brace
+module _ (x y : Sheet) (v : View) (s : State) (P : Turn → Turn → Type 0) (At : Here → Type 0)
+    (moves : (h : Here) (j : ℕ) (c : Cursor) → h .to ≤ j → At h → At (record { from = h .from; to = j; cursor = c }))
+    (alone : (h : Here) → At h → (m : Marks) → let a : Turn = record { cursor = h .cursor; state = opens-or v h (m .alone) (m .opens) s } in P a a)
+    (closes : (h : Here) → At h → (c : ℕ) (o : Opener) (os : List Opener) → seek c (s .openers) ≡ o ∷ os
+    → P (close-as x v h o (closing-of (o .sort)) (with-openers os s)) (close-as y v h o (closing-of (o .sort)) (with-openers os s)))
+    (links : (h : Here) → At h → (n : ℕ) → P (autolinked v h n s) (autolinked v h n s))
+    (names : (h : Here) → At h → (kind n : ℕ) → P (named kind v h n s) (named kind v h n s))
+    (periods : (h : Here) → At h → let a : Turn = record { cursor = h .cursor; state = dots v (h .from) (h .to - h .from) s } in P a a)
+    (hyphens : (h : Here) → At h
+    → let a : Turn = record { cursor = h .cursor; state = puts (dashes (dashesOf (h .to - h .from)) (v .base + h .from)) no-str s } in P a a)
+    (opens : (h : Here) → At h → P (opens-verbatim v h s) (opens-verbatim v h s))
+    (refuses : (h : Here) → At h → let a : Turn = record { cursor = h .cursor; state = refuse (v .base + h .from) s } in P a a) where
+  by-trial : (h : Here) → At h → (m : Marks) (os : List Opener) → seek (m .closes) (s .openers) ≡ os → P (tried x v h m os s) (tried y v h m os s)
+  unfolding tried
+  by-trial h e m [] k = alone h e m
+  by-trial h e m (o ∷ os) k = choose₂ P (may-close v h s o) _ _ _ _ (λ z. closes h e (m .closes) o os k) (λ z. alone h e m)
+
+  contained : (h : Here) → At h → (m : Marks) → P (container x v h m s) (container y v h m s)
+  contained h e m = by-trial h e m (seek (m .closes) (s .openers)) refl
+
+  by-angle : (h : Here) → At h → (f : Ahead) → P (angle x v h f s) (angle y v h f s)
+  unfolding angle
+  by-angle h e (ahead.Some n) = links h e n
+  by-angle h e ahead.None = contained h e (plain str)
+
+  by-colon : (h : Here) → At h → (f : Ahead) → P (colon x v h f s) (colon y v h f s)
+  unfolding colon
+  by-colon h e (ahead.Some n) = names h e symbol n
+  by-colon h e ahead.None = contained h e (plain str)
+
+  by-note : (h : Here) → At h → (f : Ahead) → P (noted x v h f s) (noted y v h f s)
+  unfolding noted
+  by-note h e (ahead.Some n) = names h e footnote n
+  by-note h e ahead.None = contained h e bracket
+
+  by-bracket : (h : Here) → At h → (p : Lexed) (t : Next) → P (bracketed x v h p t s) (bracketed y v h p t s)
+  unfolding bracketed
+  by-bracket h e p next.None = contained _ (moves h (h .to) (p .cursor) (omega arith) e) bracket
+  by-bracket h e p (next.Some t) = choose₂ P (is-caret (role-of (t .kind))) _ _ _ _
+      (λ z. by-note _ (moves h (h .to + t .len) _ (omega arith) e) _)
+      (λ z. contained _ (moves h (h .to) (p .cursor) (omega arith) e) bracket)
+
+  -- a token outside verbatim
+  pub by-rule : (h : Here) → At h → (r : Role) → P (outside x v h r s) (outside y v h r s)
+  unfolding outside
+  by-rule h e role.Backticks = choose₂ P (leb (h .to - h .from) 255) _ _ _ _ (λ z. opens h e) (λ z. contained h e (plain str))
+  by-rule h e role.Brace = refuses h e
+  by-rule h e role.Lt = by-angle h e (autolinkOf (drop (h .to) (v .bytes)))
+  by-rule h e role.Colon = by-colon h e (symbolOf (drop (h .to) (v .bytes)))
+  by-rule h e role.Bracket = by-bracket h e _ _
+  by-rule h e role.Paren = contained h e (plain str)
+  by-rule h e role.Periods = periods h e
+  by-rule h e role.Hyphens = choose₂ P (ltb (h .to - h .from) 2) _ _ _ _ (λ z. contained h e (plain str)) (λ z. hyphens h e)
+  by-rule h e (role.Other m) = contained h e m
+
+-- where P is of all that keeps the four sides, it is to be told of a link that closes, of a run that opens a verbatim, and of a bare brace
 module _ (x y : Sheet) (v : View) (s : State) (P : Turn → Turn → Type 0) (keeps : (a : Turn) → Kept s a → P a a)
     (links : (h : Here) (o : Opener) (t : Target) (os : List Opener)
     → P (close-as x v h o (makes.Link t) (with-openers os s)) (close-as y v h o (makes.Link t) (with-openers os s)))
@@ -95,44 +155,7 @@ module _ (x y : Sheet) (v : View) (s : State) (P : Turn → Turn → Type 0) (ke
   closed h o (makes.Span image) os = keeps _ (span-kept v h (with-openers os s) image o _ _)
   closed h o (makes.Link t) os = links h o t os
 
-  by-trial : (h : Here) (m : Marks) (os : List Opener) → P (tried x v h m os s) (tried y v h m os s)
-  unfolding tried
-  by-trial h m [] = keeps _ (opens-kept v h s (m .alone) (m .opens))
-  by-trial h m (o ∷ os) =
-      choose₂ P (may-close v h s o) _ _ _ _ (λ e. closed h o (closing-of (o .sort)) os) (λ e. keeps _ (opens-kept v h s (m .alone) (m .opens)))
-
-  contained : (h : Here) (m : Marks) → P (container x v h m s) (container y v h m s)
-  contained h m = by-trial h m (seek (m .closes) (s .openers))
-
-  by-angle : (h : Here) (f : Ahead) → P (angle x v h f s) (angle y v h f s)
-  unfolding angle
-  by-angle h (ahead.Some n) = keeps _ refl
-  by-angle h ahead.None = contained h (plain str)
-
-  by-colon : (h : Here) (f : Ahead) → P (colon x v h f s) (colon y v h f s)
-  unfolding colon
-  by-colon h (ahead.Some n) = keeps _ refl
-  by-colon h ahead.None = contained h (plain str)
-
-  by-note : (h : Here) (f : Ahead) → P (noted x v h f s) (noted y v h f s)
-  unfolding noted
-  by-note h (ahead.Some n) = keeps _ refl
-  by-note h ahead.None = contained h bracket
-
-  by-bracket : (h : Here) (p : Lexed) (t : Next) → P (bracketed x v h p t s) (bracketed y v h p t s)
-  unfolding bracketed
-  by-bracket h p next.None = contained _ bracket
-  by-bracket h p (next.Some t) = choose₂ P (is-caret (role-of (t .kind))) _ _ _ _ (λ e. by-note _ _) (λ e. contained _ bracket)
-
-  -- a token outside verbatim
   pub ruled : (h : Here) (r : Role) → P (outside x v h r s) (outside y v h r s)
-  unfolding outside
-  ruled h role.Backticks = choose₂ P (leb (h .to - h .from) 255) _ _ _ _ (λ e. opens h) (λ e. contained h (plain str))
-  ruled h role.Brace = refuses h
-  ruled h role.Lt = by-angle h (autolinkOf (drop (h .to) (v .bytes)))
-  ruled h role.Colon = by-colon h (symbolOf (drop (h .to) (v .bytes)))
-  ruled h role.Bracket = by-bracket h _ _
-  ruled h role.Paren = contained h (plain str)
-  ruled h role.Periods = keeps _ refl
-  ruled h role.Hyphens = choose₂ P (ltb (h .to - h .from) 2) _ _ _ _ (λ e. contained h (plain str)) (λ e. keeps _ refl)
-  ruled h (role.Other m) = contained h m
+  ruled h r =
+      by-rule x y v s P (λ h. Unit {0}) (λ h j c l e. tt) (λ h e m. keeps _ (opens-kept v h s (m .alone) (m .opens))) (λ h e c o os k. closed h o (closing-of (o .sort)) os)
+      (λ h e n. keeps _ refl) (λ h e kind n. keeps _ refl) (λ h e. keeps _ refl) (λ h e. keeps _ refl) (λ h e. opens h) (λ h e. refuses h) h tt r

@@ -1,12 +1,13 @@
 -- What the tables of tokens and openers keep to: a pair opens and closes the same container, or is two quotes; what stands alone neither opens
 -- nor closes; no token opens a link.
 use Prim.Native.Nat.{ℕ, _≤_, _<_}
+use mathlib.Core.Path.{_≡_, refl}
 use mathlib.Core.Bool.{Bool, true, false}
 use native.Mathlib.Omega.{arith}
 use Rattle.lex.specs.declared.lex.Kind.{Kind}
 use Rattle.lex.specs.declared.lex.Kind.the-variants.{Text, Newline, Nbsp, Hardbreak, Escape, Open, Close, Sym, Seq}
-use Rattle.lex.specs.declared.lex.Delimiter.the-variants.{Brace, BraceAsterisk, BraceCaret, BraceEqual, BraceHyphen, BracePlus}
-use Rattle.lex.specs.declared.lex.Delimiter.the-variants.{BraceTilde, BraceUnderscore, Bracket, BraceQuote1, BraceQuote2, Paren}
+use Rattle.lex.specs.declared.lex.Delimiter.the-variants.{Brace, BraceAsterisk, BraceCaret, BraceEqual, BraceHyphen, BracePlus, BraceTilde}
+use Rattle.lex.specs.declared.lex.Delimiter.the-variants.{BraceUnderscore, Bracket, BraceQuote1, BraceQuote2, Paren}
 use Rattle.lex.specs.declared.lex.Symbol.the-variants.{Asterisk, Caret, ExclaimBracket, Lt, Pipe, Quote1, Quote2, Tilde, Underscore, Colon}
 use Rattle.lex.specs.declared.lex.Sequence.the-variants.{Backtick, Hyphen, Period}
 use Rattle.reading.specs.declared.Sort.{Sort}
@@ -20,17 +21,17 @@ use Rattle.reading.specs.declared.DelimEventKind.{DelimEventKind}
 use Rattle.reading.specs.declared.DelimEventKind.the-variants as makes
 use Rattle.reading.specs.Events.{Home, nowhere, enter, exit}
 use Rattle.reading.specs.Tokens.{closed-by, unclosed, closing-of, link-sort, role-of, plain, bracket}
-use Rattle.reading.specs.Walked.{walk-by}
+use Rattle.reading.specs.Walked.{walk-by, link-exit}
 use Rattle.reading.proofs.Matching.{Wraps, wraps-match, wraps-neither}
 use Rattle.reading.proofs.Queue.{Single}
 
 unfoldable pub KindOk : DelimEventKind → Type 0
 KindOk (makes.Pair p) = Wraps (walk-by (p .first) nowhere) (walk-by (p .second) nowhere)
 KindOk (makes.Span i) = Unit {0}
-KindOk (makes.Link t) = (h : Home) → Wraps (walk-by (enter (t .container)) h) (walk-by (exit (t .container)) h)
+KindOk (makes.Link t) = (link-exit (exit (t .container)) ≡ true) × ((h : Home) → Wraps (walk-by (enter (t .container)) h) (walk-by (exit (t .container)) h))
 
 pub closing-ok : (s : Sort) → KindOk (closing-of s)
-unfolding KindOk closing-of walk-by
+unfolding KindOk closing-of walk-by link-exit
 closing-ok sort.Span = tt
 closing-ok sort.Image = tt
 closing-ok sort.Strong = wraps-match _
@@ -46,10 +47,10 @@ closing-ok sort.Delete = wraps-match _
 closing-ok sort.Insert = wraps-match _
 closing-ok sort.SingleQuoted = wraps-neither
 closing-ok sort.DoubleQuoted = wraps-neither
-closing-ok sort.ReferenceLink = λ h. wraps-match _
-closing-ok sort.ReferenceImage = λ h. wraps-match _
-closing-ok sort.InlineLink = λ h. wraps-match _
-closing-ok sort.InlineImage = λ h. wraps-match _
+closing-ok sort.ReferenceLink = (refl, λ h. wraps-match _)
+closing-ok sort.ReferenceImage = (refl, λ h. wraps-match _)
+closing-ok sort.InlineLink = (refl, λ h. wraps-match _)
+closing-ok sort.InlineImage = (refl, λ h. wraps-match _)
 
 pub unclosed-low : (s : Sort) → unclosed s < 32
 unfolding unclosed closed-by

@@ -24,7 +24,7 @@ use Rattle.reading.specs.Verbatim.{nothing, ended-at}
 use Rattle.reading.specs.Reading.{on-token, step, steps, begun, lines, views, start, end-of, read, moment}
 use Rattle.reading.specs.Dropped.{dropped}
 use Rattle.reading.specs.Questions.{total, first-outside, first-early, Fed}
-use Rattle.reading.specs.Walked.{Walked, Ordered, Of, Covered, Whole, Matches, under, events}
+use Rattle.reading.specs.Walked.{Walked, Ordered, Of, Covered, Shown, Whole, Matches, under, events}
 use Rattle.reading.proofs.Removed.{removed}
 use Rattle.reading.proofs.Dropping.{dropped-removed}
 use Rattle.reading.proofs.Matching.{Still, parts-all}
@@ -35,6 +35,7 @@ use Rattle.reading.proofs.Stepping.{met, either, either₂}
 use Rattle.reading.proofs.Drains.{drained-walk, drained-covers, drain-few, covers-ordered, under-one}
 use Rattle.reading.proofs.Feeding.{Rising, Apart, Stood, lines-stood, lines-blank, start-stood, during-few, read-out, view-shows, begun-held}
 use Rattle.reading.proofs.Feeding.{steps-all}
+use Rattle.reading.proofs.Hidden.{shown-within, left-hidden, fed-shown}
 
 lower : (a b : ℕ) → ltb (suc a) (suc b) ≡ false → ltb a b ≡ false
 lower a b e = le-ltb a b (omega (arith, ltb-false (suc a) (suc b) e))
@@ -157,10 +158,11 @@ module _ (x : Sheet) where
       abbrev before : State
       before = lines x (views (x .text) ls) start
 
+      unrefused : before .refused ≡ refused.No
+      unrefused = sym (ended-refused (end-of ls 0) (before .inside) before) ∙ taken
+
       out : Out Loose (x .text) (end-of ls 0) (suc (total ls)) (read x ls)
-      out =
-          read-out Loose (x .text) x ls up gaps told before refl
-          (sym (ended-refused (end-of ls 0) (before .inside) before) ∙ taken)
+      out = read-out Loose (x .text) x ls up gaps told before refl unrefused
 
       -- every exit matches the last enter still open, and none is open at the end
       pub walked : Walked (events x ls)
@@ -185,12 +187,19 @@ module _ (x : Sheet) where
           go (inl e) = inl e
           go (inr y) = inr (y .0, y .1 o)
 
+      -- what is shown is of a fed line, and of no dropped blank
+      pub shown : (i : ℕ) → Shown i (events x ls) → Of ls i × (Of (dropped x ls) i → ⊥)
+      shown i y = (
+        fed-shown x ls up before refl unrefused i y (shown-within Loose i 0 (events x ls) (end-of ls 0) cover y .1),
+        λ d. left-hidden x ls up before refl unrefused i (subst (λ (l : List Line). Of l i) none-other d) y,
+      )
+
       -- at most N + 1 events
       pub room : length (events x ls) ≤ total ls + 1
       room = omega (arith, drain-few (read x ls .queue), out .few)
 
       pub whole : Whole x ls
-      whole = record { walked = walked; ordered = ordered; covered = covered; blanks = blanks; room = room }
+      whole = record { walked = walked; ordered = ordered; covered = covered; shown = shown; blanks = blanks; room = room }
 
     -- the parser's own rooms, at any moment, whether or not a brace is met: behind i lines
     pub behind : (i : ℕ) → Stood Any (x .text) x (end-of (take i ls) 0) (0 + total (take i ls)) (lines x (views (x .text) (take i ls)) start)

@@ -2,14 +2,14 @@
 use Prim.Native.Nat.{ℕ, _+_, _-_, _≤_, _<_}
 use mathlib.Core.Path.{_≡_}
 use mathlib.Core.List.{List, [], _∷_, map}
-use mathlib.Core.Bool.{true, false, _&&_}
+use mathlib.Core.Bool.{Bool, true, false, _&&_}
 use mathlib.Core.Logic.{_⊎_}
 use lib.Dec.{leb, ltb}
 use lib.ListN.{length, getD}
 use Rattle.classes.specs.Classes.{bit, blank}
 use Rattle.reading.specs.declared.Line.{Line}
 use Rattle.reading.specs.declared.Event.{Event}
-use Rattle.reading.specs.Events.{Home, homeOf}
+use Rattle.reading.specs.Events.{Home, homeOf, exit, reference-link, inline-image}
 use Rattle.reading.specs.Machine.{Sheet}
 use Rattle.reading.specs.Reading.{end-of, sheet, read}
 use Rattle.reading.specs.Dropped.{dropped}
@@ -69,6 +69,15 @@ under i (e ∷ es) = bit (leb (e .start .0) i && ltb i (e .end .0)) + under i es
 abbrev pub Covered : List Line → List Line → List Event → Type 0
 Covered fed dropped es = (i : ℕ) → Of fed i → (under i es ≡ 1) ⊎ ((under i es ≡ 0) × Of dropped i)
 
+-- the exit of a link or an image: its span goes on over the destination
+unfoldable pub link-exit : ℕ → Bool
+link-exit kind = leb (exit reference-link) kind && leb kind (exit inline-image)
+
+-- a byte is under a span that is not such an exit's
+unfoldable pub Shown : ℕ → List Event → Type 0
+Shown i [] = ⊥
+Shown i (e ∷ es) = ((link-exit (e .kind) ≡ false) × (e .start .0 ≤ i) × (i < e .end .0)) ⊎ Shown i es
+
 -- the one list that the rules give
 abbrev pub events : Sheet → List Line → List Event
 events x ls = drain (read x ls .queue)
@@ -78,6 +87,7 @@ pub record Whole (x : Sheet) (ls : List Line) : Type 0 where
   pub walked : Walked (events x ls)
   pub ordered : Ordered 0 (events x ls) (end-of ls 0)
   pub covered : Covered ls (dropped x ls) (events x ls)
+  pub shown : (i : ℕ) → Shown i (events x ls) → Of ls i × (Of (dropped x ls) i → ⊥)
   pub blanks : (i : ℕ) → Of (dropped x ls) i → blank (getD (x .text) i 0) ≡ true
   pub room : length (events x ls) ≤ total ls + 1
 
