@@ -9,12 +9,12 @@ use Rattle.reading.specs.declared.Line.{Line}
 use Rattle.reading.specs.Machine.{Sheet, State, View, viewOf}
 use Rattle.reading.specs.Reading.{line as line-of, lines, views, start, end-of, sheet}
 use Rattle.reading.specs.Questions.{total}
-use Rattle.reading.proofs.Spans.{Gap}
+use Rattle.reading.proofs.Spans.{Gap, Any}
 use Rattle.reading.proofs.Backticks.{Shows}
 use Rattle.reading.proofs.Braces.{links-line}
 use Rattle.reading.proofs.Feeding as feeding
 use Rattle.reading.proofs.Feeding.{Rising, Apart, view-long, view-shows}
-use Rattle.reading.proofs.Theorems.{Any, rising, free, front, back, halves, behind}
+use Rattle.reading.proofs.Theorems.{rising, free, front, back, halves, behind}
 use Rattle.rooms.specs.declared.Parser.{Parser}
 use Rattle.rooms.specs.declared.Margin.{Margin}
 use Rattle.rooms.specs.Standing.{stands, viewed}

@@ -16,7 +16,8 @@ use Rattle.reading.specs.Questions.{total, first-outside, first-early}
 use Rattle.reading.proofs.Braces.{Outside, lines-outside, start-outside}
 use Rattle.reading.proofs.Feeding as feeding
 use Rattle.reading.proofs.Feeding.{Rising}
-use Rattle.reading.proofs.Theorems.{Any, rising, front}
+use Rattle.reading.proofs.Spans.{Any}
+use Rattle.reading.proofs.Theorems.{rising, front}
 use Rattle.rooms.specs.declared.Parser.{Parser}
 use Rattle.rooms.specs.declared.Margin.{Margin}
 use Rattle.rooms.specs.Records.{eventAt}

@@ -23,7 +23,8 @@ use Rattle.reading.proofs.Links.{links-step}
 use Rattle.reading.proofs.Backticks.{Shows}
 use Rattle.reading.proofs.Stepping.{Held, met}
 use Rattle.reading.proofs.Feeding.{begun-held, step-on}
-use Rattle.reading.proofs.Theorems.{Any, step-end, steps-still}
+use Rattle.reading.proofs.Spans.{Any}
+use Rattle.reading.proofs.Theorems.{step-end, steps-still}
 use Rattle.rooms.specs.declared.Parser.{Parser}
 use Rattle.rooms.specs.declared.Margin.{Margin}
 use Rattle.rooms.specs.Records.{eventAt, events, openerAt, opens}

@@ -45,7 +45,7 @@ use Rattle.reading.proofs.Removed.{span-of, cut, removes-at, removes-in
 use Rattle.reading.proofs.Choose.{choose, choose₂}
 use Rattle.reading.proofs.Matching.{TopBy, Parts}
 use Rattle.reading.proofs.Queue.{walks, parts-seek, parts-close, inner-found}
-use Rattle.reading.proofs.Spans.{Gap, Covers, covers-up, covers-parts, covers-amend, of-parts}
+use Rattle.reading.proofs.Spans.{Any, Gap, Covers, covers-up, covers-parts, covers-amend, of-dec, of-parts}
 use Rattle.reading.proofs.Places.{HereOk, here-ok, peek-place}
 use Rattle.reading.proofs.Tables.{KindOk, closing-ok}
 use Rattle.reading.proofs.Good.{Out, In, GoodBy, Ends}
@@ -244,18 +244,6 @@ module _ (Loose : ℕ → Type 0) (text : List ℕ) (x : Sheet) (v : View) (i n 
       verbatim-grows
       (λ h a. grows-same _ (s .queue))
 
--- whether a byte is of some lines
-of-dec : (ls : List Line) (i : ℕ) → Dec (Of ls i)
-unfolding Of
-of-dec [] i = no (λ o. o)
-of-dec (l ∷ ls) i = go (of-dec ls i) (decLt i (l .start)) (decLt i (l .end))
-  where
-    go : Dec (Of ls i) → Dec (i < l .start) → Dec (i < l .end) → Dec (((l .start ≤ i) × (i < l .end)) ⊎ Of ls i)
-    go (yes o) a b = yes (inr o)
-    go (no c) (yes a) b = no (λ o. ⊎-elim (λ (z : (l .start ≤ i) × (i < l .end)). omega (arith, a, z .0)) c o)
-    go (no c) (no a) (yes b) = yes (inl (omega (arith, a), b))
-    go (no c) (no a) (no b) = no (λ o. ⊎-elim (λ (z : (l .start ≤ i) × (i < l .end)). b (z .1)) c o)
-
 -- what a cover shows, and what its spans take, lies within it
 module _ (Loose : ℕ → Type 0) where
   pub shown-within : (i a : ℕ) (es : List Event) (b : ℕ) → Covers Loose a es b → Shown i es → (a ≤ i) × (i < b)
@@ -391,10 +379,6 @@ module _ (Loose : ℕ → Type 0) (text : List ℕ) (w : Verbatim) (v : View) (n
           (u .1, λ x. skipped-off i z (u .0) (rw (e, y, in-verbatim) at x))
       go false e true y false z = absurd (rw (e, y, z, removes-at) at o)
       go false e false y c z = absurd (rw (e, y, removes-at) at o)
-
--- for what is shown, any byte may lie in a gap
-abbrev Any : ℕ → Type 0
-Any i = Unit {0}
 
 -- a byte lies before the turn's place and is not shown, unless a brace was met
 abbrev Off : View → ℕ → Turn → Type 0

@@ -32,6 +32,22 @@ of-parts [] b i x = inr x
 of-parts (l ∷ a) b i (inl x) = inl (inl x)
 of-parts (l ∷ a) b i (inr x) = ⊎-elim (λ (y : Of a i). inl (inr y)) (λ (y : Of b i). inr y) (of-parts a b i x)
 
+-- whether a byte is of some lines
+pub of-dec : (ls : List Line) (i : ℕ) → Dec (Of ls i)
+unfolding Of
+of-dec [] i = no (λ o. o)
+of-dec (l ∷ ls) i = go (of-dec ls i) (decLt i (l .start)) (decLt i (l .end))
+  where
+    go : Dec (Of ls i) → Dec (i < l .start) → Dec (i < l .end) → Dec (((l .start ≤ i) × (i < l .end)) ⊎ Of ls i)
+    go (yes o) a b = yes (inr o)
+    go (no c) (yes a) b = no (λ o. ⊎-elim (λ (z : (l .start ≤ i) × (i < l .end)). omega (arith, a, z .0)) c o)
+    go (no c) (no a) (yes b) = yes (inl (omega (arith, a), b))
+    go (no c) (no a) (no b) = no (λ o. ⊎-elim (λ (z : (l .start ≤ i) × (i < l .end)). b (z .1)) c o)
+
+-- where it does not matter, no byte needs a span
+abbrev pub Any : ℕ → Type 0
+Any i = Unit {0}
+
 module _ (Loose : ℕ → Type 0) where
   -- from a to before b no byte needs a span
   pub record Gap (a b : ℕ) : Type 0 where

@@ -28,7 +28,7 @@ use Rattle.reading.specs.Walked.{Walked, Ordered, Of, Covered, Shown, Wh
 use Rattle.reading.proofs.Removed.{removed}
 use Rattle.reading.proofs.Dropping.{dropped-removed}
 use Rattle.reading.proofs.Matching.{Still, parts-all}
-use Rattle.reading.proofs.Spans.{Covers, gap-none}
+use Rattle.reading.proofs.Spans.{Any, Covers, gap-none}
 use Rattle.reading.proofs.Queue.{walks}
 use Rattle.reading.proofs.Good.{Out}
 use Rattle.reading.proofs.Stepping.{met, either, either₂}
@@ -98,10 +98,6 @@ unfolding total
 halves zero ls = omega arith
 halves (suc i) [] = refl
 halves (suc i) (l ∷ ls) = omega (arith, halves i ls)
-
--- for the rooms alone, no byte needs a span
-abbrev pub Any : ℕ → Type 0
-Any i = Unit {0}
 
 module _ (x : Sheet) where
   -- between two lines no byte is fed
