@@ -62,9 +62,11 @@ module _ (v : View) (h : Here) (w : Verbatim) (s : State) (c : Content) (k : Tol
 
   cut-told : trailing c ≡ map span-of (cut w (s .queue))
   unfolding trailing cut
-  cut-told =
-      ap (λ (b : Bool). elim b [ true ↦ c .blanks | false ↦ [] ]) (k .run)
-      ∙ choose₂ (λ (l : List Line) (q : List Event). l ≡ map span-of q) (w .run) _ _ _ _ (λ e. k .blanks) (λ e. refl)
+  cut-told = go (w .run) refl
+    where
+      go : (b : Bool) → w .run ≡ b → trailing c ≡ map span-of (cut w (s .queue))
+      go true e = rw (k .run, e, trailing, cut) (k .blanks)
+      go false e = rw (k .run, e, trailing, cut)
 
   -- the same is dropped at a token
   at-same : (t : Token) → drops-at v h t (w .len) c ≡ removes-at v h t w s
