@@ -13,7 +13,7 @@ crate, file, only = sys.argv[1], sys.argv[2], sys.argv[3:]
 
 def paths_of(function):
     """The paths into `c` at each need."""
-    made = f"crates/{crate}/proofs/{function}/Proof/Lts.antt"
+    made = f"crates/{crate}/proofs/Twin/{function}/Lts.antt"
     text = open(made if os.path.exists(made) else f"target/goals/{crate}/Rattle.{crate}.proofs/proofs/{function}/Lts.antt").read()
     records, name = {}, None
     for line in text.split("\n"):

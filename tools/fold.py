@@ -300,8 +300,8 @@ def steps(lines):
 
 def claims(lines):
     """The claims of the callees, which each part of a proof is told by."""
-    at = first(lines, r"abbrev pub Start : Type 0")
-    m = at is not None and re.match(r"Start = Lts\.Start (\(.*?, .*?\)) ", lines[at + 1][1])
+    at = first(lines, r"abbrev pub Start : ")
+    m = at is not None and re.match(r"Start = (?:λ [^.]*\. )?Lts\.Start (\(.*?, .*?\)) ", lines[at + 1][1])
     if m:
         for line in lines:
             line[1] = line[1].replace(m.group(1), "claims")

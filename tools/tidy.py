@@ -27,7 +27,7 @@ def rank(use):
     for k, start in enumerate((("Prim", "mathlib"), ("native",), ("borrow",), ("lib.",))):
         if path.startswith(start):
             return k
-    return 6 if ".Statement." in path or path.endswith("Tie as tie") else 5 if "·proofs.proofs." in path else 4
+    return 6 if path.endswith(".Code.{routine}") or ".Statement." in path or path.endswith("Tie as tie") else 5 if "·proofs.proofs." in path else 4
 
 
 def tidy(file):
@@ -46,7 +46,7 @@ def tidy(file):
             entries[use] = None
     out = sorted([line for key, names in entries.items() for line in ([key] if names is None else lines_of(key, names))], key=rank)
     if (m := re.search(r"crates/([^/]+)/proofs/(.*)/Proof.antt", file)) and not head:
-        laws = dict.fromkeys(re.findall(r"use Rattle·\w+(?:·proofs\.proofs|\.proofs)\.([A-Z]\w*)\.", "\n".join(out)))
+        laws = dict.fromkeys(re.findall(r"use Rattle·\w+(?:·proofs\.proofs|\.proofs)\.([A-Z]\w*)\.\{", "\n".join(out)))
         by = ", by the laws of " + " and ".join(f"`{law}`" for law in laws) if laws else ""
         head = f"-- `{m.group(1)}::{m.group(2).replace('/', '::')}` meets its contract{by}.\n"
     open(file, "w").write(head + "\n".join(mods + out) + "\n\n" + body)
