@@ -21,6 +21,8 @@ mod cases;
 mod mivurakol;
 
 use cases::{Case, Sheet};
+use mivurakol::field::{END, START};
+use mivurakol::{code, Event, EVENT_NUMBERS, OPENER_NUMBERS, QUEUE_NUMBERS};
 use std::hint::black_box;
 
 /// Rounds, each of which measures all three; and the nanoseconds that one measurement takes at least.
@@ -37,15 +39,20 @@ struct Rooms {
 
 impl Rooms {
     fn new(bytes: usize) -> Self {
-        Rooms { events: vec![0; 7 * (bytes + 1)], queue: vec![0; 8 * (2 * bytes + 1)], openers: vec![0; 4 * bytes], labels: vec![0; 4 * bytes] }
+        Rooms {
+            events: vec![0; EVENT_NUMBERS * (bytes + 1)],
+            queue: vec![0; QUEUE_NUMBERS * (2 * bytes + 1)],
+            openers: vec![0; OPENER_NUMBERS * bytes],
+            labels: vec![0; 4 * bytes],
+        }
     }
 
     /// Of these, what a sheet of so many bytes needs, and no more.
-    fn lent(&mut self, bytes: usize, labels: usize) -> mivurakol::Rooms<'_> {
+    fn front(&mut self, bytes: usize, labels: usize) -> mivurakol::Rooms<'_> {
         mivurakol::Rooms {
-            events: &mut self.events[..7 * (bytes + 1)],
-            queue: &mut self.queue[..8 * (2 * bytes + 1)],
-            openers: &mut self.openers[..4 * bytes],
+            events: &mut self.events[..EVENT_NUMBERS * (bytes + 1)],
+            queue: &mut self.queue[..QUEUE_NUMBERS * (2 * bytes + 1)],
+            openers: &mut self.openers[..OPENER_NUMBERS * bytes],
             labels: &mut self.labels[..labels],
         }
     }
@@ -68,14 +75,14 @@ fn theirs(case: &Case) {
     }
 }
 
-fn read<'r>(case: &Case, sheet: &Sheet, lent: &'r mut mivurakol::Rooms) -> (mivurakol::Answer, &'r [[u32; 7]]) {
-    let answer = mivurakol::read(case.text.as_bytes(), &sheet.lines, 0, lent);
-    (answer, &lent.events.as_chunks().0[..answer.events as usize])
+fn read<'r>(case: &Case, sheet: &Sheet, front: &'r mut mivurakol::Rooms) -> (mivurakol::Answer, &'r [Event]) {
+    let answer = mivurakol::read(case.text.as_bytes(), &sheet.lines, 0, front);
+    (answer, &front.events.as_chunks().0[..answer.events as usize])
 }
 
 fn ours(case: &Case, rooms: &mut Rooms) {
     for sheet in &case.sheets {
-        for event in read(case, sheet, &mut rooms.lent(sheet.bytes, sheet.labels)).1 {
+        for event in read(case, sheet, &mut rooms.front(sheet.bytes, sheet.labels)).1 {
             black_box(event);
         }
     }
@@ -83,13 +90,13 @@ fn ours(case: &Case, rooms: &mut Rooms) {
 
 fn clear(case: &Case, rooms: &mut Rooms) {
     for sheet in &case.sheets {
-        let lent = rooms.lent(sheet.bytes, sheet.labels);
-        for room in [lent.events, lent.queue, lent.openers] {
+        let front = rooms.front(sheet.bytes, sheet.labels);
+        for room in [front.events, front.queue, front.openers] {
             room.fill(0);
             black_box(room);
         }
-        lent.labels.fill(0);
-        black_box(lent.labels);
+        front.labels.fill(0);
+        black_box(front.labels);
     }
 }
 
@@ -97,10 +104,10 @@ fn clear(case: &Case, rooms: &mut Rooms) {
 fn label_bytes(case: &Case, rooms: &mut Rooms) -> Vec<usize> {
     let of = |sheet: &Sheet| {
         let room = rooms.labels.len();
-        let mut lent = rooms.lent(sheet.bytes, room);
-        let (answer, events) = read(case, sheet, &mut lent);
-        assert_eq!(answer.code, 0, "{}: refused", case.name);
-        let spans = events.iter().map(|e| e[1] as usize..e[2] as usize);
+        let mut front = rooms.front(sheet.bytes, room);
+        let (answer, events) = read(case, sheet, &mut front);
+        assert_eq!(answer.code, code::ACCEPTED, "{}: refused", case.name);
+        let spans = events.iter().map(|e| e[START] as usize..e[END] as usize);
         assert!(spans.eq(parser(&case.text, sheet).map(|e| e.span)), "{}: the events differ", case.name);
         answer.labels as usize
     };

@@ -1,5 +1,6 @@
-//! `attr.rs` of the documents. The Rust asks it for attributes at a bare brace outside verbatim, and at no other time: where it first asks is
-//! refusal 7, so that place is noted while a sheet is read. Nothing behind it matters then, and there are no attributes.
+//! `attr.rs` of the documents. The Rust asks it for attributes at a bare brace outside verbatim, and
+//! at no other time: where it first asks is the place of a refusal with `BRACE`, so that place is
+//! noted while a sheet is read. Nothing behind it matters then, and there are no attributes.
 
 use std::cell::Cell;
 

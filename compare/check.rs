@@ -1,9 +1,12 @@
 //! One sheet: the reader's answer and all rooms beside what the Rust and the questions of document 01 give, for rooms of many sizes.
 
+use crate::events::enters;
 use crate::expect::Expect;
 use crate::laws::Laws;
-use crate::lending::{Lent, Sort, SURE};
-use crate::mivurakol::{self, Answer, Line};
+use crate::lending::{Lending, Sort, SURE};
+use crate::mivurakol::container::{AUTOLINK, DISPLAY_MATH, INLINE_IMAGE, INLINE_MATH, REFERENCE_LINK, SUBSCRIPT};
+use crate::mivurakol::field::{END, KIND, START};
+use crate::mivurakol::{self, code, home, Answer, Event, Line, EXIT};
 use crate::model::Sizes;
 use crate::ours;
 use crate::rooms::Rooms;
@@ -17,7 +20,7 @@ const SEARCH: Duration = Duration::from_secs(20);
 #[derive(Clone, Default)]
 pub struct Counts {
     /// By code.
-    pub answers: [u64; 10],
+    pub answers: [u64; code::EVENT_ROOM as usize + 1],
     pub lists: u64,
     pub links: u64,
     pub built: u64,
@@ -27,23 +30,23 @@ pub struct Counts {
 }
 
 /// How deep a list goes.
-fn depth(events: &[[u32; 7]]) -> usize {
+fn depth(events: &[Event]) -> usize {
     let mut open = 0;
     let mut deepest = 0;
     for e in events {
-        open = (open + usize::from((33..=48).contains(&e[0]))).saturating_sub(usize::from(e[0] > 64));
+        open = (open + usize::from(enters(SUBSCRIPT, AUTOLINK).contains(&e[KIND]))).saturating_sub(usize::from(e[KIND] > EXIT));
         deepest = deepest.max(open);
     }
     deepest
 }
 
 /// Whether a math's dollars stand on a line, and its backticks on the next.
-fn math_over(sheet: &Sheet, events: &[[u32; 7]]) -> bool {
-    let over = |e: &[u32; 7]| {
-        let next = sheet.ends.partition_point(|&end| end <= e[1] as usize);
-        sheet.ends.get(next).is_some_and(|&end| end < e[2] as usize)
+fn math_over(sheet: &Sheet, events: &[Event]) -> bool {
+    let over = |e: &Event| {
+        let next = sheet.ends.partition_point(|&end| end <= e[START] as usize);
+        sheet.ends.get(next).is_some_and(|&end| end < e[END] as usize)
     };
-    events.iter().any(|e| (42..=43).contains(&e[0]) && over(e))
+    events.iter().any(|e| enters(INLINE_MATH, DISPLAY_MATH).contains(&e[KIND]) && over(e))
 }
 
 /// Calls the reader, and sees that all is as expected.
@@ -105,13 +108,13 @@ impl Checker {
         if answer != expected {
             return Some(format!("{expected:?} is expected, the answer is {answer:?}"));
         }
-        if expected.code == 0 && !self.expect.same_text {
+        if expected.code == code::ACCEPTED && !self.expect.same_text {
             for b in &mut self.rooms.labels.room_mut()[..expected.labels as usize] {
                 *b = ascii(*b);
             }
         }
-        let said = &self.expect.said;
-        self.rooms.wrong(expected.code, &said.events, &said.labels).map(|wrong| format!("{wrong} after {}", expected.code))
+        let rust = &self.expect.rust;
+        self.rooms.wrong(expected.code, &rust.events, &rust.labels).map(|wrong| format!("{wrong} after {}", expected.code))
     }
 
     /// The event room and the label room, as the last call left them.
@@ -119,29 +122,29 @@ impl Checker {
         (self.rooms.events.room(), self.rooms.labels.room())
     }
 
-    fn lend(&mut self, sheet: &Sheet, reading: u32, lent: &Lent) -> Result<(), String> {
-        let sizes = self.expect.need.sizes(lent);
-        let answer = self.call(sheet, lent.reading.unwrap_or(reading), &sizes)?;
+    fn lend(&mut self, sheet: &Sheet, reading: u32, lending: &Lending) -> Result<(), String> {
+        let sizes = self.expect.need.sizes(lending);
+        let answer = self.call(sheet, lending.reading.unwrap_or(reading), &sizes)?;
         self.counts[reading as usize].answers[answer.code as usize] += 1;
         Ok(())
     }
 
-    /// The laws, and the label of each event with a home, after a call that was answered 0.
+    /// The laws, and the label of each event with a home, after a call that was accepted.
     fn list(&mut self, sheet: &Sheet, reading: u32) -> Result<(), String> {
         let labels = self.rooms.labels.room();
         let counts = &mut self.counts[reading as usize];
-        let events = &self.expect.said.events;
-        for &[kind, _, _, home, start, end, _] in events {
-            if home == 0 {
+        let events = &self.expect.rust.events;
+        for &[kind, _, _, home, start, end, ..] in events {
+            if home == home::NONE {
                 continue;
             }
-            let of = if home == 1 { &sheet.text } else { labels };
+            let of = if home == home::TEXT { &sheet.text } else { labels };
             let expected = &of[start as usize..end as usize];
             if !std::ptr::eq(mivurakol::label(&sheet.text, labels, home, start, end), expected) {
                 return Err(format!("the label at {home}, {start}..{end} differs"));
             }
             counts.lookups += 1;
-            counts.links += u64::from((44..=47).contains(&kind));
+            counts.links += u64::from(enters(REFERENCE_LINK, INLINE_IMAGE).contains(&kind));
         }
         counts.lists += 1;
         counts.built += u64::from(!labels.is_empty());
@@ -151,9 +154,9 @@ impl Checker {
     }
 
     /// One sheet with one lending, and its list.
-    fn once(&mut self, sheet: &Sheet, reading: u32, lent: &Lent) -> Result<(), String> {
+    fn once(&mut self, sheet: &Sheet, reading: u32, lending: &Lending) -> Result<(), String> {
         self.expect.ask(sheet, reading);
-        self.lend(sheet, reading, lent)?;
+        self.lend(sheet, reading, lending)?;
         if self.expect.readable() {
             self.lend(sheet, reading, &SURE)?;
             self.list(sheet, reading)?;
@@ -162,7 +165,7 @@ impl Checker {
     }
 
     /// The next lending of a sort.
-    fn turn(&mut self, reading: u32, sort: Sort) -> Lent {
+    fn turn(&mut self, reading: u32, sort: Sort) -> Lending {
         let turn = &mut self.turns[reading as usize][sort as usize];
         *turn += 1;
         let some = sort.lendings();
@@ -170,7 +173,7 @@ impl Checker {
     }
 
     /// One sheet in one reading, with the lending that is for every sheet and so many others. The lending that shows a difference.
-    fn check(&mut self, sheet: &Sheet, reading: u32, turns: usize) -> Result<(), Lent> {
+    fn check(&mut self, sheet: &Sheet, reading: u32, turns: usize) -> Result<(), Lending> {
         self.expect.ask(sheet, reading);
         self.lend(sheet, reading, &SURE).map_err(|_| SURE)?;
         if self.expect.readable() {
@@ -178,8 +181,8 @@ impl Checker {
         }
         for sort in Sort::of(&self.expect) {
             for _ in 0..turns {
-                let lent = self.turn(reading, *sort);
-                self.lend(sheet, reading, &lent).map_err(|_| lent)?;
+                let lending = self.turn(reading, *sort);
+                self.lend(sheet, reading, &lending).map_err(|_| lending)?;
             }
         }
         Ok(())
@@ -191,8 +194,8 @@ impl Checker {
         self.sheets += 1;
         for reading in 0..2 {
             let turns = if self.sheets % 2 == u64::from(reading) { turns } else { 0 };
-            if let Err(lent) = self.check(sheet, reading, turns) {
-                self.report(sheet, reading, &lent);
+            if let Err(lending) = self.check(sheet, reading, turns) {
+                self.report(sheet, reading, &lending);
                 return false;
             }
         }
@@ -200,21 +203,21 @@ impl Checker {
     }
 
     /// Tells of the smallest sheet near this one that differs too.
-    fn report(&mut self, sheet: &Sheet, reading: u32, lent: &Lent) {
+    fn report(&mut self, sheet: &Sheet, reading: u32, lending: &Lending) {
         let utf8 = sheet.characters().is_some();
         let mut least = sheet.clone();
         let started = Instant::now();
         loop {
             let mut near = least.smaller().take_while(|_| started.elapsed() < SEARCH);
-            let less = near.find(|s| s.characters().is_some() == utf8 && self.once(s, reading, lent).is_err());
+            let less = near.find(|s| s.characters().is_some() == utf8 && self.once(s, reading, lending).is_err());
             drop(near);
             let Some(less) = less else {
                 break;
             };
             least = less;
         }
-        let wrong = self.once(&least, reading, lent).err().unwrap_or("only behind other calls".to_string());
-        self.print(&least, lent.reading.unwrap_or(reading), &self.expect.need.sizes(lent), &wrong);
+        let wrong = self.once(&least, reading, lending).err().unwrap_or("only behind other calls".to_string());
+        self.print(&least, lending.reading.unwrap_or(reading), &self.expect.need.sizes(lending), &wrong);
     }
 
     /// Tells of a difference.
@@ -228,8 +231,8 @@ impl Checker {
         println!("text {:?} ({:?})", String::from_utf8_lossy(&sheet.text), sheet.text);
         println!("starts {:?}, ends {:?}", sheet.starts, sheet.ends);
         let (events, labels) = self.left();
-        let said = &self.expect.said;
-        println!("the Rust: events {:?}, labels {:?}, brace {:?}", said.events, said.labels, said.brace);
+        let rust = &self.expect.rust;
+        println!("the Rust: events {:?}, labels {:?}, brace {:?}", rust.events, rust.labels, rust.brace);
         println!("ours: event room {events:?}, label room {labels:?}");
     }
 }

@@ -1,17 +1,17 @@
 //! What is expected of a sheet: questions 1 to 6, 8 and 9 by document 01, all else by the Rust.
 
 use crate::lending::Need;
-use crate::mivurakol::Answer;
+use crate::mivurakol::{Answer, EVENT_NUMBERS, OPENER_NUMBERS, QUEUE_NUMBERS};
 use crate::model::{self, Sizes};
 use crate::sheet::Sheet;
-use crate::theirs::{self, Said};
+use crate::theirs::{self, RustAnswer};
 use std::borrow::Cow;
 
 /// What is known of a sheet in reading 0 or 1.
 pub struct Expect {
     /// The refusal under questions 1 to 4; without one the Rust was asked.
     pub unfit: Option<Answer>,
-    pub said: Said,
+    pub rust: RustAnswer,
     /// Whether it was asked about this very text: then labels are equal to the byte.
     pub same_text: bool,
     pub need: Need,
@@ -20,31 +20,36 @@ pub struct Expect {
 impl Expect {
     pub fn new() -> Self {
         let exact = Sizes { events: 0, queue: 0, openers: 0, labels: 0 };
-        Expect { unfit: None, said: Said::default(), same_text: true, need: Need { exact, bound: 0 } }
+        Expect { unfit: None, rust: RustAnswer::default(), same_text: true, need: Need { exact, bound: 0 } }
     }
 
     pub fn ask(&mut self, sheet: &Sheet, reading: u32) {
         self.unfit = model::unfit(sheet, reading);
-        self.said.clear();
+        self.rust.clear();
         self.same_text = true;
         if self.unfit.is_none() {
             let text = sheet.for_the_rust();
             self.same_text = matches!(text, Cow::Borrowed(_));
-            theirs::read(&text, &sheet.starts, &sheet.ends, reading, &mut self.said);
+            theirs::read(&text, &sheet.starts, &sheet.ends, reading, &mut self.rust);
         }
         let fed = sheet.fed();
-        let exact = Sizes { events: 7 * self.said.events.len(), queue: 8 * (2 * fed + 1), openers: 4 * fed, labels: self.said.labels.len() };
-        self.need = Need { exact, bound: 7 * (fed + 1) };
+        let exact = Sizes {
+            events: EVENT_NUMBERS * self.rust.events.len(),
+            queue: QUEUE_NUMBERS * (2 * fed + 1),
+            openers: OPENER_NUMBERS * fed,
+            labels: self.rust.labels.len(),
+        };
+        self.need = Need { exact, bound: EVENT_NUMBERS * (fed + 1) };
     }
 
     /// The answer with rooms of these sizes, also in a reading that there is not.
     pub fn answer(&self, sheet: &Sheet, reading: u32, sizes: &Sizes) -> Answer {
         let unfit = if reading > 1 { model::unfit(sheet, reading) } else { self.unfit };
-        unfit.unwrap_or_else(|| model::answer(sheet.fed(), sizes, &self.said))
+        unfit.unwrap_or_else(|| model::answer(sheet.fed(), sizes, &self.rust))
     }
 
     /// Whether it is accepted with enough room.
     pub fn readable(&self) -> bool {
-        self.unfit.is_none() && self.said.brace.is_none()
+        self.unfit.is_none() && self.rust.brace.is_none()
     }
 }

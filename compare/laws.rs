@@ -1,5 +1,9 @@
 //! What demand 3 says of a list of events: balance, order, cover, number.
 
+use crate::events::{enters, exits};
+use crate::mivurakol::container::{AUTOLINK, DISPLAY_MATH, INLINE_IMAGE, REFERENCE_LINK, SUBSCRIPT, VERBATIM};
+use crate::mivurakol::field::{END, HOME, KIND, LINK, START};
+use crate::mivurakol::{kind, Event, ENTER, EXIT};
 use crate::sheet::Sheet;
 
 /// A piece of a verbatim's content: where it is, on which line, and whether it is blank or a run of backticks.
@@ -58,7 +62,7 @@ fn odd_backslashes(s: &[u8]) -> bool {
     s.iter().rev().take_while(|&&b| b == b'\\').count() % 2 == 1
 }
 
-/// The blanks that the verbatim rule drops from a content, told from text, lines and reading. `closed`: by a run, not by the last line's end.
+/// The blanks that the verbatim rule drops from a content, from text, lines and reading. `closed`: by a run, not by the last line's end.
 fn dropped(pieces: &[Piece], run: usize, closed: bool, out: &mut Vec<usize>) {
     let Some(first) = pieces.iter().position(|p| !p.blank) else {
         // Nothing but blanks: the closing run has the opener's length, so nothing is dropped.
@@ -79,7 +83,7 @@ fn dropped(pieces: &[Piece], run: usize, closed: bool, out: &mut Vec<usize>) {
 /// Room to test lists in.
 #[derive(Default)]
 pub struct Laws {
-    open: Vec<[u32; 7]>,
+    open: Vec<Event>,
     gone: Vec<usize>,
     covered: Vec<u8>,
     shown: Vec<bool>,
@@ -87,7 +91,7 @@ pub struct Laws {
 
 impl Laws {
     /// What is wrong with a list.
-    pub fn broken(&mut self, sheet: &Sheet, reading: u32, events: &[[u32; 7]]) -> Option<String> {
+    pub fn broken(&mut self, sheet: &Sheet, reading: u32, events: &[Event]) -> Option<String> {
         self.open.clear();
         self.gone.clear();
         self.covered.clear();
@@ -105,7 +109,7 @@ impl Laws {
                 *under += 1;
             }
             // The exit of a link also goes over its destination.
-            if !(76..=79).contains(&kind) {
+            if !exits(REFERENCE_LINK, INLINE_IMAGE).contains(&kind) {
                 self.shown[start as usize..end as usize].fill(true);
             }
             if let Some(wrong) = self.walk(sheet, reading, e) {
@@ -122,25 +126,24 @@ impl Laws {
     }
 
     /// One event: an exit closes the last one open. What a verbatim drops is noted.
-    fn walk(&mut self, sheet: &Sheet, reading: u32, e: &[u32; 7]) -> Option<String> {
+    fn walk(&mut self, sheet: &Sheet, reading: u32, e: &Event) -> Option<String> {
         let [kind, start, end, ..] = *e;
-        match kind {
-            1..=14 => (),
-            33..=48 => self.open.push(*e),
-            65..=80 => {
-                let Some(enter) = self.open.pop() else {
-                    return Some("an exit of nothing".to_string());
-                };
-                if enter[0] + 32 != kind || enter[3..] != e[3..] {
-                    return Some(format!("{enter:?} is left by {e:?}"));
-                }
-                if (40..=43).contains(&enter[0]) {
-                    let from = enter[2] as usize;
-                    let run = sheet.text[enter[1] as usize..from].iter().rev().take_while(|&&b| b == b'`').count();
-                    dropped(&pieces(sheet, reading, from, start as usize), run, start < end, &mut self.gone);
-                }
+        if enters(SUBSCRIPT, AUTOLINK).contains(&kind) {
+            self.open.push(*e);
+        } else if exits(SUBSCRIPT, AUTOLINK).contains(&kind) {
+            let Some(enter) = self.open.pop() else {
+                return Some("an exit of nothing".to_string());
+            };
+            if enter[KIND] - ENTER != kind - EXIT || enter[HOME..=LINK] != e[HOME..=LINK] {
+                return Some(format!("{enter:?} is left by {e:?}"));
             }
-            _ => return Some(format!("kind {kind}")),
+            if enters(VERBATIM, DISPLAY_MATH).contains(&enter[KIND]) {
+                let from = enter[END] as usize;
+                let run = sheet.text[enter[START] as usize..from].iter().rev().take_while(|&&b| b == b'`').count();
+                dropped(&pieces(sheet, reading, from, start as usize), run, start < end, &mut self.gone);
+            }
+        } else if !(kind::STR..=kind::FOOTNOTE_REFERENCE).contains(&kind) {
+            return Some(format!("kind {kind}"));
         }
         None
     }

@@ -1,6 +1,7 @@
 //! How much room is lent for a sheet.
 
 use crate::expect::Expect;
+use crate::mivurakol::{EVENT_NUMBERS, OPENER_NUMBERS, QUEUE_NUMBERS};
 use crate::model::Sizes;
 use Size::{Bound, Half, Less, More, Nothing};
 
@@ -19,7 +20,7 @@ pub enum Size {
 
 /// What is lent, and the reading, if it is another.
 #[derive(Clone, Copy, Debug)]
-pub struct Lent {
+pub struct Lending {
     pub reading: Option<u32>,
     pub events: Size,
     pub queue: Size,
@@ -27,62 +28,68 @@ pub struct Lent {
     pub labels: Size,
 }
 
-const EXACT: Lent = Lent { reading: None, events: More(0), queue: More(0), openers: More(0), labels: More(0) };
-const NOTHING: Lent = Lent { reading: None, events: Nothing, queue: Nothing, openers: Nothing, labels: Nothing };
+const EXACT: Lending = Lending { reading: None, events: More(0), queue: More(0), openers: More(0), labels: More(0) };
+const NOTHING: Lending = Lending { reading: None, events: Nothing, queue: Nothing, openers: Nothing, labels: Nothing };
 
-/// Lent for every sheet: with N + 1 event records it is never refused under 9.
-pub const SURE: Lent = Lent { events: Bound, ..EXACT };
+/// Lent for every sheet: with N + 1 event records it is never refused for event room.
+pub const SURE: Lending = Lending { events: Bound, ..EXACT };
 
 /// Lent in turn for any sheet.
-const ANY: &[Lent] = &[
+const ANY: &[Lending] = &[
     EXACT,
-    Lent { events: Less(1), ..EXACT },
-    Lent { queue: Less(1), ..EXACT },
-    Lent { openers: Less(1), ..SURE },
-    Lent { events: More(3), queue: More(5), openers: More(1), labels: More(2), ..EXACT },
-    Lent { events: Nothing, ..EXACT },
-    Lent { queue: Nothing, ..SURE },
-    Lent { openers: Nothing, ..EXACT },
-    Lent { queue: Less(1), openers: Less(1), ..EXACT },
-    Lent { events: More(6), queue: More(7), openers: More(3), labels: More(40), ..EXACT },
-    Lent { events: Less(7), ..EXACT },
-    Lent { queue: Less(8), events: Nothing, ..EXACT },
-    Lent { openers: Less(4), labels: Nothing, events: Nothing, ..EXACT },
+    Lending { events: Less(1), ..EXACT },
+    Lending { queue: Less(1), ..EXACT },
+    Lending { openers: Less(1), ..SURE },
+    Lending { events: More(3), queue: More(5), openers: More(1), labels: More(2), ..EXACT },
+    Lending { events: Nothing, ..EXACT },
+    Lending { queue: Nothing, ..SURE },
+    Lending { openers: Nothing, ..EXACT },
+    Lending { queue: Less(1), openers: Less(1), ..EXACT },
+    Lending { events: More(EVENT_NUMBERS - 1), queue: More(QUEUE_NUMBERS - 1), openers: More(OPENER_NUMBERS - 1), labels: More(40), ..EXACT },
+    Lending { events: Less(EVENT_NUMBERS), ..EXACT },
+    Lending { queue: Less(QUEUE_NUMBERS), events: Nothing, ..EXACT },
+    Lending { openers: Less(OPENER_NUMBERS), labels: Nothing, events: Nothing, ..EXACT },
     NOTHING,
-    Lent { events: Half, ..EXACT },
-    Lent { queue: Half, ..SURE },
-    Lent { reading: Some(2), ..SURE },
-    Lent { openers: Half, ..SURE },
-    Lent { reading: Some(u32::MAX), ..NOTHING },
-    Lent { events: More(70), queue: More(83), openers: More(42), labels: More(11), ..EXACT },
+    Lending { events: Half, ..EXACT },
+    Lending { queue: Half, ..SURE },
+    Lending { reading: Some(2), ..SURE },
+    Lending { openers: Half, ..SURE },
+    Lending { reading: Some(u32::MAX), ..NOTHING },
+    Lending { events: More(10 * EVENT_NUMBERS), queue: More(10 * QUEUE_NUMBERS + 3), openers: More(10 * OPENER_NUMBERS + 2), labels: More(11), ..EXACT },
 ];
 
 /// For sheets with labels in the label room.
-const BUILT: &[Lent] = &[
-    Lent { labels: Less(1), ..SURE },
-    Lent { labels: Less(1), events: Less(1), ..EXACT },
-    Lent { labels: More(1), ..EXACT },
-    Lent { labels: Nothing, ..SURE },
-    Lent { labels: Half, queue: More(3), openers: More(2), ..SURE },
-    Lent { labels: Nothing, events: Nothing, ..EXACT },
-    Lent { labels: Nothing, queue: Less(1), ..EXACT },
-    Lent { labels: Less(1), openers: Less(1), ..EXACT },
-    Lent { labels: More(1000), events: Less(7), ..EXACT },
-    Lent { labels: Less(2), ..SURE },
+const BUILT: &[Lending] = &[
+    Lending { labels: Less(1), ..SURE },
+    Lending { labels: Less(1), events: Less(1), ..EXACT },
+    Lending { labels: More(1), ..EXACT },
+    Lending { labels: Nothing, ..SURE },
+    Lending { labels: Half, queue: More(3), openers: More(2), ..SURE },
+    Lending { labels: Nothing, events: Nothing, ..EXACT },
+    Lending { labels: Nothing, queue: Less(1), ..EXACT },
+    Lending { labels: Less(1), openers: Less(1), ..EXACT },
+    Lending { labels: More(1000), events: Less(EVENT_NUMBERS), ..EXACT },
+    Lending { labels: Less(2), ..SURE },
 ];
 
 /// For sheets that are refused at a brace.
-const BRACED: &[Lent] = &[
-    Lent { events: Nothing, labels: Nothing, ..EXACT },
-    Lent { queue: Less(1), ..SURE },
-    Lent { openers: Less(1), ..SURE },
-    Lent { events: More(9), queue: More(6), openers: More(2), labels: More(33), ..EXACT },
-    Lent { events: More(700), queue: More(801), openers: More(403), labels: More(70), ..EXACT },
-    Lent { reading: Some(2), ..SURE },
+const BRACED: &[Lending] = &[
+    Lending { events: Nothing, labels: Nothing, ..EXACT },
+    Lending { queue: Less(1), ..SURE },
+    Lending { openers: Less(1), ..SURE },
+    Lending { events: More(9), queue: More(6), openers: More(2), labels: More(33), ..EXACT },
+    Lending {
+        events: More(100 * EVENT_NUMBERS),
+        queue: More(100 * QUEUE_NUMBERS + 1),
+        openers: More(100 * OPENER_NUMBERS + 3),
+        labels: More(70),
+        ..EXACT
+    },
+    Lending { reading: Some(2), ..SURE },
 ];
 
 /// For line lists that are none.
-const UNFIT: &[Lent] = &[NOTHING, Lent { labels: More(5), ..SURE }, Lent { reading: Some(3), ..NOTHING }, EXACT];
+const UNFIT: &[Lending] = &[NOTHING, Lending { labels: More(5), ..SURE }, Lending { reading: Some(3), ..NOTHING }, EXACT];
 
 /// Sorts of sheets that lendings are for.
 #[derive(Clone, Copy)]
@@ -98,16 +105,16 @@ impl Sort {
     pub fn of(expect: &Expect) -> &'static [Sort] {
         if expect.unfit.is_some() {
             &[Sort::Unfit]
-        } else if expect.said.brace.is_some() {
+        } else if expect.rust.brace.is_some() {
             &[Sort::Braced]
-        } else if expect.said.labels.is_empty() {
+        } else if expect.rust.labels.is_empty() {
             &[Sort::Any]
         } else {
             &[Sort::Built, Sort::Any]
         }
     }
 
-    pub fn lendings(self) -> &'static [Lent] {
+    pub fn lendings(self) -> &'static [Lending] {
         match self {
             Sort::Any => ANY,
             Sort::Built => BUILT,
@@ -126,7 +133,7 @@ pub struct Need {
 }
 
 impl Need {
-    pub fn sizes(&self, lent: &Lent) -> Sizes {
+    pub fn sizes(&self, lending: &Lending) -> Sizes {
         let of = |need: usize, size: Size| match size {
             More(n) => need + n,
             Less(n) => need.saturating_sub(n),
@@ -135,6 +142,6 @@ impl Need {
             Bound => self.bound,
         };
         let Sizes { events, queue, openers, labels } = self.exact;
-        Sizes { events: of(events, lent.events), queue: of(queue, lent.queue), openers: of(openers, lent.openers), labels: of(labels, lent.labels) }
+        Sizes { events: of(events, lending.events), queue: of(queue, lending.queue), openers: of(openers, lending.openers), labels: of(labels, lending.labels) }
     }
 }

@@ -1,8 +1,10 @@
 //! Every limit: rooms of all sizes, the largest text and line list, line lists that are none, the longest label room.
 
 use crate::check::Checker;
-use crate::mivurakol::{self, Answer, Line};
-use crate::model::{Sizes, LABELS, MOST};
+use crate::events::{homed, in_labels};
+use crate::mivurakol::container::INLINE_LINK;
+use crate::mivurakol::{self, code, Answer, Line, ENTER, EVENT_NUMBERS, EXIT, LABEL_LIMIT, LARGEST, OPENER_NUMBERS, QUEUE_NUMBERS};
+use crate::model::Sizes;
 use crate::random::strings;
 use crate::sheet::Sheet;
 use crate::worked::WORKED;
@@ -32,9 +34,9 @@ fn each_size(checker: &mut Checker, sheet: &Sheet, reading: u32, calls: &mut u64
             right(checker, sheet, reading, &with(n))
         })
     };
-    all(exact.events + 9, &|events| Sizes { events, ..exact })
-        && all(exact.queue + 10, &|queue| Sizes { queue, ..exact })
-        && all(exact.openers + 6, &|openers| Sizes { openers, ..exact })
+    all(exact.events + EVENT_NUMBERS + 2, &|events| Sizes { events, ..exact })
+        && all(exact.queue + QUEUE_NUMBERS + 2, &|queue| Sizes { queue, ..exact })
+        && all(exact.openers + OPENER_NUMBERS + 2, &|openers| Sizes { openers, ..exact })
         && all(exact.labels + 3, &|labels| Sizes { labels, ..exact })
 }
 
@@ -136,42 +138,42 @@ fn by_newline(text: Vec<u8>) -> Sheet {
 /// Sheets of the largest text and of the longest line list, and such that go beyond.
 fn largest() -> Vec<Sheet> {
     let cell = b"*12* `R-07` left \"[K1][]\" -- [a b](c\nd) $`x`\n";
-    let letters = repeated(b"a", MOST + 1);
-    let mut newlines = repeated(b"\n", MOST);
-    newlines[MOST - 1] = b'`';
-    let bytes: Vec<(usize, usize)> = (0..MOST).map(|p| (p, p + 1)).collect();
+    let letters = repeated(b"a", LARGEST + 1);
+    let mut newlines = repeated(b"\n", LARGEST);
+    newlines[LARGEST - 1] = b'`';
+    let bytes: Vec<(usize, usize)> = (0..LARGEST).map(|p| (p, p + 1)).collect();
     let mut sheets = vec![
-        Sheet::line(&letters[..MOST]),
-        by_newline(repeated(cell, MOST)),
+        Sheet::line(&letters[..LARGEST]),
+        by_newline(repeated(cell, LARGEST)),
         by_newline(newlines),
-        Sheet::new(&repeated(cell, MOST), &bytes),
-        Sheet::new(&letters[..MOST], &[]),
-        Sheet::new(&letters[..MOST], &[(MOST, MOST)]),
-        Sheet::new(&letters[..MOST], &[(0, 1), (MOST - 1, MOST + 1)]),
+        Sheet::new(&repeated(cell, LARGEST), &bytes),
+        Sheet::new(&letters[..LARGEST], &[]),
+        Sheet::new(&letters[..LARGEST], &[(LARGEST, LARGEST)]),
+        Sheet::new(&letters[..LARGEST], &[(0, 1), (LARGEST - 1, LARGEST + 1)]),
         Sheet::line(&letters),
         Sheet::new(&letters, &[]),
         Sheet::new(&letters, &[(0, 1)]),
         Sheet::new(&letters, &[(1, 0)]),
         Sheet::line(&repeated(b"[", 1 << 14)),
         Sheet::line(&repeated(b"{", 1 << 16)),
-        Sheet::line(&repeated(b"....", MOST)),
-        Sheet::line(&repeated(b"`", MOST)),
+        Sheet::line(&repeated(b"....", LARGEST)),
+        Sheet::line(&repeated(b"`", LARGEST)),
     ];
     // Empty lines: as many starts as ends, or not.
     for (starts, ends) in [(0, 0), (1, 1), (0, 1), (1, 0), (0, -1), (-1, 0), (-1, -1)] {
-        let count = |more: isize| vec![0; MOST.strict_add_signed(more)];
+        let count = |more: isize| vec![0; LARGEST.strict_add_signed(more)];
         sheets.push(Sheet { text: Vec::new(), starts: count(starts), ends: count(ends) });
     }
-    // The last line is the first that is refused: under 3, and under 4.
-    let mut last = Sheet::new(b"ab", &vec![(1, 1); MOST]);
-    last.ends[MOST - 1] = 3;
+    // The last line is the first that is refused: as outside, and as early.
+    let mut last = Sheet::new(b"ab", &vec![(1, 1); LARGEST]);
+    last.ends[LARGEST - 1] = 3;
     sheets.push(last.clone());
-    last.ends[MOST - 1] = 1;
-    last.starts[MOST - 1] = 0;
+    last.ends[LARGEST - 1] = 1;
+    last.starts[LARGEST - 1] = 0;
     sheets.push(last.clone());
     // One that is early before one that is outside.
     last.starts[1] = 0;
-    last.ends[MOST - 1] = 9;
+    last.ends[LARGEST - 1] = 9;
     sheets.push(last);
     sheets
 }
@@ -186,7 +188,7 @@ fn large(checker: &mut Checker) -> bool {
             return false;
         }
     }
-    println!("limits: {} sheets around {MOST} bytes and lines ({:.0?})", sheets.len(), started.elapsed());
+    println!("limits: {} sheets around {LARGEST} bytes and lines ({:.0?})", sheets.len(), started.elapsed());
     true
 }
 
@@ -228,17 +230,19 @@ fn fills(labels: &mut [u8], over: bool) -> bool {
     let (links, inner) = (4369, 974_319);
     let sheet = nested(links, inner, if over { b"[b][]" } else { b"" });
     let n = sheet.text.len();
-    let (mut events, mut queue, mut openers) = (vec![0x55; 7 * (n + 1)], vec![0x55; 8 * (2 * n + 1)], vec![0x55; 4 * n]);
+    let mut events = vec![0x55; EVENT_NUMBERS * (n + 1)];
+    let mut queue = vec![0x55; QUEUE_NUMBERS * (2 * n + 1)];
+    let mut openers = vec![0x55; OPENER_NUMBERS * n];
     let mut rooms = mivurakol::Rooms { events: &mut events, queue: &mut queue, openers: &mut openers, labels };
     let lines: Vec<Line> = sheet.lines().map(|(start, end)| Line { start, end }).collect();
     let answer = mivurakol::read(&sheet.text, &lines, 0, &mut rooms);
     // The outermost link is all that is handed out.
-    let home = [2, (LABELS - inner - 4 * (links - 1)) as u32, LABELS as u32, links as u32 - 1];
-    let list = [[46, 0, 1], [78, 1, n as u32]].map(|e| [e.as_slice(), &home].concat()).concat();
+    let home = in_labels((LABEL_LIMIT - inner - 4 * (links - 1)) as u32, LABEL_LIMIT as u32, links as u32 - 1);
+    let list = [homed(ENTER + INLINE_LINK, home, 0, 1), homed(EXIT + INLINE_LINK, home, 1, n as u32)].concat();
     let (expected, list, links) = if over {
-        (Answer { code: 8, ..Answer::default() }, Vec::new(), 0)
+        (Answer { code: code::LABEL_ROOM, ..Answer::default() }, Vec::new(), 0)
     } else {
-        (Answer { code: 0, place: 0, events: 2, labels: LABELS as u32 }, list, links)
+        (Answer { code: code::ACCEPTED, place: 0, events: 2, labels: LABEL_LIMIT as u32 }, list, links)
     };
     let zero = |room: &[u32]| room.iter().all(|&x| x == 0);
     let right = events.starts_with(&list) && zero(&events[list.len()..]) && zero(&queue) && zero(&openers) && holds(links, inner, labels);
@@ -250,26 +254,26 @@ fn fills(labels: &mut [u8], over: bool) -> bool {
     true
 }
 
-/// A label room longer than 4,294,967,295 bytes, if there is memory for it.
+/// A label room longer than counts, if there is memory for it.
 fn longest_room(checker: &mut Checker) -> bool {
     // The same in small.
     if !(1..20).all(|n| checker.right(&nested(n, 5 * n, b""), 2) && checker.right(&nested(n, n, b"[b][]"), 2)) {
         return false;
     }
-    if memory().is_none_or(|free| free < LABELS + (1 << 30)) {
-        println!("limits: LEFT OUT, for want of memory: a label room of more than {LABELS} bytes");
+    if memory().is_none_or(|free| free < LABEL_LIMIT + (1 << 30)) {
+        println!("limits: LEFT OUT, for want of memory: a label room of more than {LABEL_LIMIT} bytes");
         return true;
     }
     let started = Instant::now();
-    let mut labels = vec![0x55; LABELS + 5];
+    let mut labels = vec![0x55; LABEL_LIMIT + 5];
     if !fills(&mut labels, false) {
         return false;
     }
-    labels[LABELS..].fill(0x55);
+    labels[LABEL_LIMIT..].fill(0x55);
     if !fills(&mut labels, true) {
         return false;
     }
-    println!("limits: labels of {LABELS} bytes and of one more, in a room of {} ({:.0?})", labels.len(), started.elapsed());
+    println!("limits: labels of {LABEL_LIMIT} bytes and of one more, in a room of {} ({:.0?})", labels.len(), started.elapsed());
     true
 }
 

@@ -1,14 +1,17 @@
 //! The label lookup on any homes and ranges.
 
-use crate::mivurakol;
+use crate::mivurakol::{self, home};
 use crate::random::Random;
+
+/// What is looked up, mostly the two homes that hold bytes.
+const HOMES: [u32; 9] = [home::NONE, home::TEXT, home::TEXT, home::TEXT, home::LABELS, home::LABELS, home::LABELS, home::LABELS + 1, u32::MAX];
 
 /// As document 01 has it: a part of the text or of the label room, or an empty part of the text.
 fn expected<'a>(text: &'a [u8], labels: &'a [u8], home: u32, start: u32, end: u32) -> &'a [u8] {
     let range = start as usize..end as usize;
     match home {
-        1 => text.get(range),
-        2 => labels.get(range),
+        home::TEXT => text.get(range),
+        home::LABELS => labels.get(range),
         _ => None,
     }
     .unwrap_or(&text[..0])
@@ -33,8 +36,8 @@ pub fn compare(seed: u64) -> bool {
     let mut empty = 0;
     for _ in 0..lookups {
         let (text, labels) = (&some[r.below(8)..8 + r.below(25)], &others[r.below(8)..8 + r.below(25)]);
-        let home = [0, 1, 1, 1, 2, 2, 2, 3, u32::MAX][r.below(9)];
-        let len = if home == 2 { labels.len() } else { text.len() };
+        let home = HOMES[r.below(HOMES.len())];
+        let len = if home == home::LABELS { labels.len() } else { text.len() };
         let (start, end) = (place(&mut r, len), place(&mut r, len));
         let part = expected(text, labels, home, start, end);
         empty += u64::from(part.is_empty());

@@ -26,6 +26,7 @@ mod lex {
 type CowStr<'s> = std::borrow::Cow<'s, str>;
 
 mod check;
+mod events;
 mod expect;
 mod laws;
 mod lending;

@@ -1,14 +1,8 @@
 //! The questions that document 01 asks of a sheet, in its own words. What the parser gives is the Rust's.
 
-use crate::mivurakol::Answer;
+use crate::mivurakol::{code, Answer, EVENT_NUMBERS, LABEL_LIMIT, LARGEST, OPENER_NUMBERS, QUEUE_NUMBERS};
 use crate::sheet::Sheet;
-use crate::theirs::Said;
-
-/// The most bytes of a text, and the most lines.
-pub const MOST: usize = 1_048_576;
-
-/// Of a longer label room only so many bytes count.
-pub const LABELS: usize = 4_294_967_295;
+use crate::theirs::RustAnswer;
 
 /// The lengths of the four rooms: numbers, and bytes of the label room.
 #[derive(Clone, Copy, Debug, PartialEq, Eq)]
@@ -26,10 +20,10 @@ fn refused(code: u32, place: usize) -> Answer {
 /// Questions 1 and 2.
 fn limits(sheet: &Sheet, reading: u32) -> Option<Answer> {
     if reading != 0 && reading != 1 {
-        return Some(refused(1, 0));
+        return Some(refused(code::READING, 0));
     }
     let lines = sheet.starts.len().max(sheet.ends.len());
-    (sheet.text.len() > MOST || lines > MOST).then(|| refused(2, 0))
+    (sheet.text.len() > LARGEST || lines > LARGEST).then(|| refused(code::TOO_LARGE, 0))
 }
 
 /// Questions 3 and 4. A start without an end, or an end without a start, is a line that ends before it starts.
@@ -38,12 +32,12 @@ fn lines(sheet: &Sheet) -> Option<Answer> {
     let both = starts.len().min(ends.len());
     let inside = |i: usize| starts[i] <= ends[i] && ends[i] <= text.len();
     if let Some(i) = (0..both).find(|&i| !inside(i)) {
-        return Some(refused(3, i));
+        return Some(refused(code::OUTSIDE, i));
     }
     if starts.len() != ends.len() {
-        return Some(refused(3, both));
+        return Some(refused(code::OUTSIDE, both));
     }
-    (1..both).find(|&i| starts[i] < ends[i - 1]).map(|i| refused(4, i))
+    (1..both).find(|&i| starts[i] < ends[i - 1]).map(|i| refused(code::EARLY, i))
 }
 
 /// Questions 1 to 4: the refusal, if there is one.
@@ -52,18 +46,18 @@ pub fn unfit(sheet: &Sheet, reading: u32) -> Option<Answer> {
 }
 
 /// The answer to a sheet that is fit, from question 5 on: the Rust says which brace, labels and events there are.
-pub fn answer(fed: usize, sizes: &Sizes, said: &Said) -> Answer {
-    if sizes.queue / 8 < 2 * fed + 1 {
-        refused(5, 0)
-    } else if sizes.openers / 4 < fed {
-        refused(6, 0)
-    } else if let Some(place) = said.brace {
-        refused(7, place)
-    } else if sizes.labels.min(LABELS) < said.labels.len() {
-        refused(8, 0)
-    } else if sizes.events / 7 < said.events.len() {
-        refused(9, 0)
+pub fn answer(fed: usize, sizes: &Sizes, rust: &RustAnswer) -> Answer {
+    if sizes.queue / QUEUE_NUMBERS < 2 * fed + 1 {
+        refused(code::QUEUE_ROOM, 0)
+    } else if sizes.openers / OPENER_NUMBERS < fed {
+        refused(code::OPENER_ROOM, 0)
+    } else if let Some(place) = rust.brace {
+        refused(code::BRACE, place)
+    } else if sizes.labels.min(LABEL_LIMIT) < rust.labels.len() {
+        refused(code::LABEL_ROOM, 0)
+    } else if sizes.events / EVENT_NUMBERS < rust.events.len() {
+        refused(code::EVENT_ROOM, 0)
     } else {
-        Answer { code: 0, place: 0, events: said.events.len() as u32, labels: said.labels.len() as u32 }
+        Answer { code: code::ACCEPTED, place: 0, events: rust.events.len() as u32, labels: rust.labels.len() as u32 }
     }
 }

@@ -91,7 +91,7 @@ fn opening(what: Scan) -> &'static str {
     }
 }
 
-/// Whether the Rust's scan accepts these bytes, behind what opens, and the length that it accepts: told by the first event. `text` is
+/// Whether the Rust's scan accepts these bytes, behind what opens, and the length that it accepts: by the first event. `text` is
 /// room for the whole.
 pub fn scan(what: Scan, src: &str, text: &mut String) -> Option<usize> {
     text.clear();

@@ -1,6 +1,6 @@
 //! Rooms as they are lent: each is the middle of a longer buffer, full of noise.
 
-use crate::mivurakol;
+use crate::mivurakol::{self, code, Event};
 use crate::model::Sizes;
 use crate::random::Random;
 
@@ -111,14 +111,15 @@ impl Rooms {
         mivurakol::Rooms { events: events.room_mut(), queue: queue.room_mut(), openers: openers.room_mut(), labels: labels.room_mut() }
     }
 
-    /// What is wrong with them after a call: after 1 to 6 they are untouched, after 7 to 9 they are zero, and after 0 these events and labels
-    /// stand from the front, and all else is zero.
-    pub fn wrong(&self, code: u32, events: &[[u32; 7]], labels: &[u8]) -> Option<&'static str> {
+    /// What is wrong with them after a call: after the codes to `OPENER_ROOM` they are untouched,
+    /// after the later ones they are zero, and after `ACCEPTED` these events and labels stand from
+    /// the front, and all else is zero.
+    pub fn wrong(&self, code: u32, events: &[Event], labels: &[u8]) -> Option<&'static str> {
         let Rooms { events: e, queue: q, openers: o, labels: l } = self;
-        if (1..=6).contains(&code) {
+        if (code::READING..=code::OPENER_ROOM).contains(&code) {
             return (!(e.untouched() && q.untouched() && o.untouched() && l.untouched())).then_some("a room is touched");
         }
-        let (events, labels) = if code == 0 { (events, labels) } else { (&events[..0], &labels[..0]) };
+        let (events, labels) = if code == code::ACCEPTED { (events, labels) } else { (&events[..0], &labels[..0]) };
         if !(e.guarded() && q.guarded() && o.guarded() && l.guarded()) {
             Some("it is written outside a room")
         } else if !e.holds(events.as_flattened()) {

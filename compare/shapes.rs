@@ -1,5 +1,6 @@
 //! Random sheets: any text cut anyhow, shapes that such a text seldom has, marked-up ones, and damaged copies of these.
 
+use crate::mivurakol::LONGEST_RUN;
 use crate::random::{Random, TELLING};
 use crate::sheet::Sheet;
 
@@ -12,7 +13,7 @@ const PIECES: &[&str] = &[
     "}", "#", "text", "\0",
 ];
 
-/// How far a text goes: mostly short, at times to 255 and beyond.
+/// How far a text goes: mostly short, at times to the longest run and beyond.
 fn length(r: &mut Random) -> usize {
     match r.below(64) {
         0 => r.below(700),
@@ -38,7 +39,7 @@ pub fn text(r: &mut Random, out: &mut Vec<u8>) {
             11..=12 => quiet[r.below(quiet.len())],
             13 => {
                 let b = b"[*_`-.'$"[r.below(8)];
-                let times = 1 + if r.below(4) == 0 { 250 + r.below(10) } else { r.below(5) };
+                let times = 1 + if r.below(4) == 0 { LONGEST_RUN - 5 + r.below(10) } else { r.below(5) };
                 out.extend(std::iter::repeat_n(b, times));
                 few[r.below(few.len())]
             }
@@ -139,10 +140,14 @@ fn nested(r: &mut Random, out: &mut Vec<u8>) {
     }
 }
 
-/// Runs of backticks of a few lengths, most of them around 255, so that many close.
+/// Lengths of runs of backticks: most of them around the longest.
+const RUNS: [usize; 10] =
+    [1, 2, LONGEST_RUN - 1, LONGEST_RUN, LONGEST_RUN, LONGEST_RUN + 1, LONGEST_RUN + 1, LONGEST_RUN + 2, 2 * LONGEST_RUN + 1, 2 * LONGEST_RUN + 2];
+
+/// Runs of backticks of a few lengths, so that many close.
 fn backticks(r: &mut Random, out: &mut Vec<u8>) {
     out.clear();
-    let mut len = || [1, 2, 254, 255, 255, 256, 256, 257, 511, 512][r.below(10)];
+    let mut len = || RUNS[r.below(RUNS.len())];
     let lens = [len(), len()];
     let between = ["a", " ", "\n", "\\", "$", "{=h}", "a ", " a", "  ", "*"];
     for _ in 0..1 + r.below(6) {
@@ -383,12 +388,18 @@ pub fn any(r: &mut Random, sheet: &mut Sheet) -> bool {
     false
 }
 
-/// What random sheets are counted by.
-pub const SHAPES: [&str; 8] =
-    ["of one line", "of more", "with gaps", "with touching lines", "with empty lines", "with 255 backticks", "with 256 and more", "not UTF-8"];
+/// How many shapes random sheets are counted by.
+pub const SHAPES: usize = 8;
+
+/// What they are called.
+pub fn names() -> [String; SHAPES] {
+    let longest = format!("with {LONGEST_RUN} backticks");
+    let longer = format!("with {} and more", LONGEST_RUN + 1);
+    ["of one line", "of more", "with gaps", "with touching lines", "with empty lines", &longest, &longer, "not UTF-8"].map(str::to_string)
+}
 
 /// Of a sheet whose lines are fit.
-pub fn shapes(sheet: &Sheet) -> [bool; 8] {
+pub fn shapes(sheet: &Sheet) -> [bool; SHAPES] {
     let Sheet { text, starts, ends } = sheet;
     let two = |test: fn(usize, usize) -> bool| ends.iter().zip(starts.iter().skip(1)).any(|(&end, &start)| test(end, start));
     let runs = |test: fn(usize) -> bool| sheet.lines().any(|l| text[l.0..l.1].split(|&b| b != b'`').any(|run| test(run.len())));
@@ -398,8 +409,8 @@ pub fn shapes(sheet: &Sheet) -> [bool; 8] {
         two(|end, start| end < start),
         two(|end, start| end == start),
         sheet.lines().any(|l| l.0 == l.1),
-        runs(|n| n == 255),
-        runs(|n| n > 255),
+        runs(|n| n == LONGEST_RUN),
+        runs(|n| n > LONGEST_RUN),
         sheet.characters().is_none(),
     ]
 }

@@ -1,9 +1,10 @@
 //! The reader against the Rust: worked sheets, all short ones over some alphabets, random ones.
 
 use crate::check::Checker;
+use crate::mivurakol::{code, EVENT_NUMBERS, OPENER_NUMBERS, QUEUE_NUMBERS};
 use crate::model::Sizes;
 use crate::random::{strings, Random};
-use crate::shapes::{any, shapes, SHAPES};
+use crate::shapes::{any, names, shapes, SHAPES};
 use crate::sheet::Sheet;
 use crate::worked::WORKED;
 use crate::{limits, lookup, model};
@@ -21,11 +22,12 @@ fn worked(checker: &mut Checker) -> bool {
         let sheet = w.sheet();
         let n = sheet.fed();
         checker.expect.ask(&sheet, w.reading);
-        let sizes = Sizes { events: 7 * (n + 1), queue: 8 * (2 * n + 1), openers: 4 * n, labels: w.labels.len() };
+        let sizes =
+            Sizes { events: EVENT_NUMBERS * (n + 1), queue: QUEUE_NUMBERS * (2 * n + 1), openers: OPENER_NUMBERS * n, labels: w.labels.len() };
         let called = checker.call(&sheet, w.reading, &sizes);
         let (events, labels) = checker.left();
-        let given = events[..7 * w.events.len()] == *w.events.as_flattened() && *labels == *w.labels;
-        if called != Ok(w.answer()) || w.answer().code == 0 && !given {
+        let given = events[..EVENT_NUMBERS * w.events.len()] == *w.events.as_flattened() && *labels == *w.labels;
+        if called != Ok(w.answer()) || w.answer().code == code::ACCEPTED && !given {
             checker.print(&sheet, w.reading, &sizes, &format!("document 01 has {:?}: {called:?}", w.answer()));
             return false;
         }
@@ -89,7 +91,7 @@ fn random(checker: &mut Checker, sheets: u64, seed: u64) -> bool {
     let started = Instant::now();
     let mut r = Random::new(seed);
     let mut sheet = Sheet::default();
-    let mut shaped = [0u64; SHAPES.len()];
+    let mut shaped = [0u64; SHAPES];
     let (mut damaged, mut unfit) = (0u64, 0u64);
     for _ in 0..sheets {
         damaged += u64::from(any(&mut r, &mut sheet));
@@ -104,7 +106,7 @@ fn random(checker: &mut Checker, sheets: u64, seed: u64) -> bool {
             return false;
         }
     }
-    let shaped: Vec<_> = shaped.iter().zip(SHAPES).map(|(count, shape)| format!("{count} {shape}")).collect();
+    let shaped: Vec<_> = shaped.iter().zip(names()).map(|(count, shape)| format!("{count} {shape}")).collect();
     println!(
         "sheets: {sheets} random ones of seed {seed}, {damaged} damaged, {unfit} with lines that are none, {} ({:.0?})",
         shaped.join(", "),

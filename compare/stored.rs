@@ -1,9 +1,12 @@
-//! The sheets, with the Rust's answers, that the gate replays. A case is one line of numbers: the reading; the number of bytes of the text, and
-//! these; the number of starts, and these; the number of ends, and these; the lengths of the event, queue, opener and label rooms; the answer's
-//! code, place, events and label bytes; and after code 0 the numbers of the events and the bytes of the labels.
+//! The sheets, with the Rust's answers, that the gate replays. A case is one line of numbers: the
+//! reading; the number of bytes of the text, and these; the number of starts, and these; the number
+//! of ends, and these; the lengths of the event, queue, opener and label rooms; the answer's code,
+//! place, events and label bytes; and of an accepted sheet the numbers of the events and the bytes
+//! of the labels.
 
 use crate::expect::Expect;
-use crate::lending::{Lent, Sort, SURE};
+use crate::lending::{Lending, Sort, SURE};
+use crate::mivurakol::{code, EVENT_NUMBERS, OPENER_NUMBERS, QUEUE_NUMBERS};
 use crate::model::Sizes;
 use crate::random::Random;
 use crate::rows::one_in;
@@ -14,7 +17,7 @@ use crate::worked::WORKED;
 /// What the program that replays them has room for.
 const TEXT: usize = 1200;
 const LINES: usize = 64;
-const MOST: Sizes = Sizes { events: 8407, queue: 19208, openers: 4800, labels: 1200 };
+const MOST: Sizes = Sizes { events: EVENT_NUMBERS * (TEXT + 1), queue: QUEUE_NUMBERS * (2 * TEXT + 1), openers: OPENER_NUMBERS * TEXT, labels: TEXT };
 
 /// How many random sheets; of these, how many are read otherwise in reading 1.
 const SHEETS: usize = 260;
@@ -37,15 +40,15 @@ fn listed<T: std::fmt::Display>(out: &mut String, numbers: &[T]) {
 }
 
 /// A case, if there is room for it. Whether there was.
-fn case(sheet: &Sheet, reading: u32, lent: &Lent, expect: &Expect) -> bool {
-    let sizes = expect.need.sizes(lent);
+fn case(sheet: &Sheet, reading: u32, lending: &Lending, expect: &Expect) -> bool {
+    let sizes = expect.need.sizes(lending);
     let Sizes { events, queue, openers, labels } = sizes;
     let lines = sheet.starts.len().max(sheet.ends.len());
     let rooms = events <= MOST.events && queue <= MOST.queue && openers <= MOST.openers && labels <= MOST.labels;
     if sheet.text.len() > TEXT || lines > LINES || !rooms {
         return false;
     }
-    let reading = lent.reading.unwrap_or(reading);
+    let reading = lending.reading.unwrap_or(reading);
     let answer = expect.answer(sheet, reading, &sizes);
     let mut out = reading.to_string();
     counted(&mut out, &sheet.text);
@@ -53,9 +56,9 @@ fn case(sheet: &Sheet, reading: u32, lent: &Lent, expect: &Expect) -> bool {
     counted(&mut out, &sheet.ends);
     listed(&mut out, &[events, queue, openers, labels]);
     listed(&mut out, &[answer.code, answer.place, answer.events, answer.labels]);
-    if answer.code == 0 {
-        listed(&mut out, expect.said.events.as_flattened());
-        listed(&mut out, &expect.said.labels);
+    if answer.code == code::ACCEPTED {
+        listed(&mut out, expect.rust.events.as_flattened());
+        listed(&mut out, &expect.rust.labels);
     }
     println!("{out}");
     true
@@ -66,7 +69,7 @@ fn named(expect: &mut Expect) {
     for w in WORKED {
         let sheet = w.sheet();
         expect.ask(&sheet, w.reading);
-        assert!(expect.said.events == w.events && expect.said.labels == w.labels, "document 01 and the Rust differ");
+        assert!(expect.rust.events == w.events && expect.rust.labels == w.labels, "document 01 and the Rust differ");
         case(&sheet, w.reading, &SURE, expect);
     }
     let mut newlines = vec![b'\n'; TEXT];
@@ -97,10 +100,10 @@ fn short(r: &mut Random, longest: usize, sheet: &mut Sheet) {
 
 /// How often a sheet of its sort is taken, one in so many.
 fn taken_of(expect: &Expect) -> u64 {
-    if expect.unfit.is_some() || expect.said.brace.is_some() {
+    if expect.unfit.is_some() || expect.rust.brace.is_some() {
         2
     } else {
-        one_in(&expect.said)
+        one_in(&expect.rust)
     }
 }
 
@@ -131,9 +134,9 @@ fn strict(r: &mut Random, expect: &mut Expect) {
     while taken < STRICT {
         short(r, LONGEST, &mut sheet);
         expect.ask(&sheet, 1);
-        let events = expect.said.events.clone();
+        let events = expect.rust.events.clone();
         expect.ask(&sheet, 0);
-        if !expect.same_text || events == expect.said.events || !case(&sheet, 0, &SURE, expect) {
+        if !expect.same_text || events == expect.rust.events || !case(&sheet, 0, &SURE, expect) {
             continue;
         }
         taken += 1;

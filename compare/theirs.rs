@@ -1,18 +1,21 @@
 //! What the Rust says of a sheet.
 
 use crate::attr;
+use crate::events::{homed, in_labels, in_text, Home, NOWHERE};
+use crate::mivurakol::{container, kind, Event, ENTER, EXIT};
 
-/// Events of seven numbers, the bytes of the label room, and the first bare brace outside verbatim: where there is one, no more is said.
+/// Events, the bytes of the label room, and the first bare brace outside verbatim: where there is
+/// one, nothing more is noted.
 #[derive(Default)]
-pub struct Said {
-    pub events: Vec<[u32; 7]>,
+pub struct RustAnswer {
+    pub events: Vec<Event>,
     pub labels: Vec<u8>,
     pub brace: Option<usize>,
     /// Where the label of each link is.
-    homes: Vec<[u32; 3]>,
+    homes: Vec<Home>,
 }
 
-impl Said {
+impl RustAnswer {
     pub fn clear(&mut self) {
         self.events.clear();
         self.labels.clear();
@@ -22,18 +25,18 @@ impl Said {
 }
 
 /// A part of the text, as a home.
-fn part(text: &str, s: &str) -> [u32; 3] {
+fn part(text: &str, s: &str) -> Home {
     let start = s.as_ptr() as usize - text.as_ptr() as usize;
-    [1, start as u32, (start + s.len()) as u32]
+    in_text(start as u32, (start + s.len()) as u32)
 }
 
 /// A sheet read by the parser of a module that is `inline.rs`. Labels that the Rust owns stand in the label room one behind the other.
 macro_rules! reads {
     ($name:ident, $module:ident) => {
-        fn $name(text: &str, starts: &[usize], ends: &[usize], said: &mut Said) {
+        fn $name(text: &str, starts: &[usize], ends: &[usize], rust: &mut RustAnswer) {
             use crate::$module::{Atom, Container, EventKind, Parser, QuoteType};
             use std::borrow::Cow;
-            said.clear();
+            rust.clear();
             let n = starts.len();
             if n == 0 {
                 return;
@@ -45,73 +48,71 @@ macro_rules! reads {
             loop {
                 let event = parser.next();
                 if let Some(address) = attr::noted() {
-                    said.clear();
-                    said.brace = Some(address - text.as_ptr() as usize);
+                    rust.clear();
+                    rust.brace = Some(address - text.as_ptr() as usize);
                     return;
                 }
-                for label in &parser.store_cowstrs[said.homes.len()..] {
-                    said.homes.push(match label {
-                        Cow::Borrowed(s) => part(text, s),
+                for label in &parser.store_cowstrs[rust.homes.len()..] {
+                    let link = rust.homes.len() as u32;
+                    rust.homes.push(match label {
+                        Cow::Borrowed(s) => Home { link, ..part(text, s) },
                         Cow::Owned(s) => {
-                            let start = said.labels.len() as u32;
-                            said.labels.extend(s.as_bytes());
-                            [2, start, said.labels.len() as u32]
+                            let start = rust.labels.len() as u32;
+                            rust.labels.extend(s.as_bytes());
+                            in_labels(start, rust.labels.len() as u32, link)
                         }
                     });
                 }
                 let Some(e) = event else {
                     return;
                 };
-                let link = |i: u32| (said.homes[i as usize], i);
+                let link = |i: u32| rust.homes[i as usize];
                 let container = |c: Container| match c {
-                    Container::Span => (0, ([0; 3], 0)),
-                    Container::Subscript => (1, ([0; 3], 0)),
-                    Container::Superscript => (2, ([0; 3], 0)),
-                    Container::Insert => (3, ([0; 3], 0)),
-                    Container::Delete => (4, ([0; 3], 0)),
-                    Container::Emphasis => (5, ([0; 3], 0)),
-                    Container::Strong => (6, ([0; 3], 0)),
-                    Container::Mark => (7, ([0; 3], 0)),
-                    Container::Verbatim => (8, ([0; 3], 0)),
-                    Container::RawFormat { format } => (9, (part(text, format), 0)),
-                    Container::InlineMath => (10, ([0; 3], 0)),
-                    Container::DisplayMath => (11, ([0; 3], 0)),
-                    Container::ReferenceLink(i) => (12, link(i)),
-                    Container::ReferenceImage(i) => (13, link(i)),
-                    Container::InlineLink(i) => (14, link(i)),
-                    Container::InlineImage(i) => (15, link(i)),
-                    Container::Autolink(url) => (16, (part(text, url), 0)),
+                    Container::Span => (container::SPAN, NOWHERE),
+                    Container::Subscript => (container::SUBSCRIPT, NOWHERE),
+                    Container::Superscript => (container::SUPERSCRIPT, NOWHERE),
+                    Container::Insert => (container::INSERT, NOWHERE),
+                    Container::Delete => (container::DELETE, NOWHERE),
+                    Container::Emphasis => (container::EMPHASIS, NOWHERE),
+                    Container::Strong => (container::STRONG, NOWHERE),
+                    Container::Mark => (container::MARK, NOWHERE),
+                    Container::Verbatim => (container::VERBATIM, NOWHERE),
+                    Container::RawFormat { format } => (container::RAW_FORMAT, part(text, format)),
+                    Container::InlineMath => (container::INLINE_MATH, NOWHERE),
+                    Container::DisplayMath => (container::DISPLAY_MATH, NOWHERE),
+                    Container::ReferenceLink(i) => (container::REFERENCE_LINK, link(i)),
+                    Container::ReferenceImage(i) => (container::REFERENCE_IMAGE, link(i)),
+                    Container::InlineLink(i) => (container::INLINE_LINK, link(i)),
+                    Container::InlineImage(i) => (container::INLINE_IMAGE, link(i)),
+                    Container::Autolink(url) => (container::AUTOLINK, part(text, url)),
                 };
                 let atom = |a: Atom| match a {
-                    Atom::Softbreak => (2, [0; 3]),
-                    Atom::Hardbreak => (3, [0; 3]),
-                    Atom::Escape => (4, [0; 3]),
-                    Atom::Nbsp => (5, [0; 3]),
-                    Atom::Ellipsis => (6, [0; 3]),
-                    Atom::EnDash => (7, [0; 3]),
-                    Atom::EmDash => (8, [0; 3]),
-                    Atom::Quote { ty: QuoteType::Single, left } => (if left { 9 } else { 10 }, [0; 3]),
-                    Atom::Quote { ty: QuoteType::Double, left } => (if left { 11 } else { 12 }, [0; 3]),
-                    Atom::Symbol(s) => (13, part(text, s)),
-                    Atom::FootnoteReference { label } => (14, part(text, label)),
+                    Atom::Softbreak => (kind::SOFTBREAK, NOWHERE),
+                    Atom::Hardbreak => (kind::HARDBREAK, NOWHERE),
+                    Atom::Escape => (kind::ESCAPE, NOWHERE),
+                    Atom::Nbsp => (kind::NBSP, NOWHERE),
+                    Atom::Ellipsis => (kind::ELLIPSIS, NOWHERE),
+                    Atom::EnDash => (kind::EN_DASH, NOWHERE),
+                    Atom::EmDash => (kind::EM_DASH, NOWHERE),
+                    Atom::Quote { ty: QuoteType::Single, left } => (if left { kind::LEFT_SINGLE_QUOTE } else { kind::RIGHT_SINGLE_QUOTE }, NOWHERE),
+                    Atom::Quote { ty: QuoteType::Double, left } => (if left { kind::LEFT_DOUBLE_QUOTE } else { kind::RIGHT_DOUBLE_QUOTE }, NOWHERE),
+                    Atom::Symbol(s) => (kind::SYMBOL, part(text, s)),
+                    Atom::FootnoteReference { label } => (kind::FOOTNOTE_REFERENCE, part(text, label)),
                 };
-                let (kind, (home, link)) = match e.kind {
-                    EventKind::Str => (1, ([0; 3], 0)),
-                    EventKind::Atom(a) => {
-                        let (kind, home) = atom(a);
-                        (kind, (home, 0))
-                    }
+                let (kind, home) = match e.kind {
+                    EventKind::Str => (kind::STR, NOWHERE),
+                    EventKind::Atom(a) => atom(a),
                     EventKind::Enter(c) => {
                         let (k, home) = container(c);
-                        (32 + k, home)
+                        (ENTER + k, home)
                     }
                     EventKind::Exit(c) => {
                         let (k, home) = container(c);
-                        (64 + k, home)
+                        (EXIT + k, home)
                     }
                     kind => panic!("{kind:?} is handed out"),
                 };
-                said.events.push([kind, e.span.start as u32, e.span.end as u32, home[0], home[1], home[2], link]);
+                rust.events.push(homed(kind, home, e.span.start as u32, e.span.end as u32));
             }
         }
     };
@@ -120,11 +121,11 @@ reads!(as_it_stands, inline);
 reads!(strict, strict);
 
 /// Of the lines of a text, in reading 0 or 1.
-pub fn read(text: &str, starts: &[usize], ends: &[usize], reading: u32, said: &mut Said) {
+pub fn read(text: &str, starts: &[usize], ends: &[usize], reading: u32, rust: &mut RustAnswer) {
     attr::note();
     match reading {
-        0 => as_it_stands(text, starts, ends, said),
-        _ => strict(text, starts, ends, said),
+        0 => as_it_stands(text, starts, ends, rust),
+        _ => strict(text, starts, ends, rust),
     }
     attr::forget();
 }

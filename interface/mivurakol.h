@@ -1,7 +1,8 @@
 /* The reader of Djot inline text, from C: the static library of crates/mivurakol.
  *
- * No pointer may be null, also for a length of 0. The four rooms lie apart from one another and from the text and the lines. Any
- * lengths and any contents are answered; nothing outside the rooms is written, and nothing is kept after the call.
+ * No pointer may be null, also for a length of 0. The four rooms lie apart from one another and
+ * from the text and the lines. Any lengths and any contents are answered; nothing outside the rooms
+ * is written, and nothing is kept after the call.
  */
 #ifndef MIVURAKOL_H
 #define MIVURAKOL_H
@@ -13,24 +14,101 @@
 extern "C" {
 #endif
 
-/* Numbers in a record of each room. */
-enum {
-    MIVURAKOL_EVENT = 7,
-    MIVURAKOL_QUEUED = 8,
-    MIVURAKOL_OPENER = 4
-};
+/* Numbers in a record of the event room, of the queue room and of the opener room. */
+#define MIVURAKOL_EVENT_NUMBERS 7
+#define MIVURAKOL_QUEUE_NUMBERS 8
+#define MIVURAKOL_OPENER_NUMBERS 4
 
-/* The answer. Code 0 is accepted; a refusal has events and labels 0, and place 0 unless said:
- *   1 the reading is neither 0 nor 1
- *   2 the text is over 1,048,576 bytes, or the line list over 1,048,576 lines
- *   3 line `place` does not have start <= end <= text length
- *   4 line `place` starts before the end of the one before
- *   5 the queue room has fewer than 2N + 1 records (N: the sum of the line lengths)
- *   6 the opener room has fewer than N records
- *   7 a bare opening brace stands at byte `place`, outside verbatim
- *   8 the label room does not hold the labels (of a longer one only 4,294,967,295 bytes count)
- *   9 the event room does not hold the events; never for whoever lends N + 1 records
- * After 1 to 6 no room is written. After 7 to 9 all four are zero. After 0, events and label bytes stand from the front, and all else is zero. */
+/* The most bytes of a text, and the most lines. */
+#define MIVURAKOL_LARGEST 1048576
+
+/* Of a longer label room only so many bytes count. */
+#define MIVURAKOL_LABEL_LIMIT 4294967295u
+
+/* The longest run of backticks that opens or closes verbatim. */
+#define MIVURAKOL_LONGEST_RUN 255
+
+/* Where the numbers of an event stand in its record: kind, span, home and the part of it, link
+ * number. Those with no meaning are 0. */
+#define MIVURAKOL_FIELD_KIND 0
+#define MIVURAKOL_FIELD_START 1
+#define MIVURAKOL_FIELD_END 2
+#define MIVURAKOL_FIELD_HOME 3
+#define MIVURAKOL_FIELD_HOME_START 4
+#define MIVURAKOL_FIELD_HOME_END 5
+#define MIVURAKOL_FIELD_LINK 6
+
+/* The kinds that neither open nor close. */
+#define MIVURAKOL_KIND_STR 1
+#define MIVURAKOL_KIND_SOFTBREAK 2
+#define MIVURAKOL_KIND_HARDBREAK 3
+#define MIVURAKOL_KIND_ESCAPE 4
+#define MIVURAKOL_KIND_NBSP 5
+#define MIVURAKOL_KIND_ELLIPSIS 6
+#define MIVURAKOL_KIND_EN_DASH 7
+#define MIVURAKOL_KIND_EM_DASH 8
+#define MIVURAKOL_KIND_LEFT_SINGLE_QUOTE 9
+#define MIVURAKOL_KIND_RIGHT_SINGLE_QUOTE 10
+#define MIVURAKOL_KIND_LEFT_DOUBLE_QUOTE 11
+#define MIVURAKOL_KIND_RIGHT_DOUBLE_QUOTE 12
+#define MIVURAKOL_KIND_SYMBOL 13
+#define MIVURAKOL_KIND_FOOTNOTE_REFERENCE 14
+
+/* Container k is entered by an event of kind MIVURAKOL_ENTER + k, and left by one of kind
+ * MIVURAKOL_EXIT + k. */
+#define MIVURAKOL_ENTER 32
+#define MIVURAKOL_EXIT 64
+
+/* The containers, in the order of the source's `Container`. A span is never handed out. */
+#define MIVURAKOL_CONTAINER_SPAN 0
+#define MIVURAKOL_CONTAINER_SUBSCRIPT 1
+#define MIVURAKOL_CONTAINER_SUPERSCRIPT 2
+#define MIVURAKOL_CONTAINER_INSERT 3
+#define MIVURAKOL_CONTAINER_DELETE 4
+#define MIVURAKOL_CONTAINER_EMPHASIS 5
+#define MIVURAKOL_CONTAINER_STRONG 6
+#define MIVURAKOL_CONTAINER_MARK 7
+#define MIVURAKOL_CONTAINER_VERBATIM 8
+#define MIVURAKOL_CONTAINER_RAW_FORMAT 9
+#define MIVURAKOL_CONTAINER_INLINE_MATH 10
+#define MIVURAKOL_CONTAINER_DISPLAY_MATH 11
+#define MIVURAKOL_CONTAINER_REFERENCE_LINK 12
+#define MIVURAKOL_CONTAINER_REFERENCE_IMAGE 13
+#define MIVURAKOL_CONTAINER_INLINE_LINK 14
+#define MIVURAKOL_CONTAINER_INLINE_IMAGE 15
+#define MIVURAKOL_CONTAINER_AUTOLINK 16
+
+/* Where an event's symbol, footnote label, raw format, address or link label stands: nowhere, in
+ * the text, in the label room. */
+#define MIVURAKOL_HOME_NONE 0
+#define MIVURAKOL_HOME_TEXT 1
+#define MIVURAKOL_HOME_LABELS 2
+
+/* The codes of an answer. N is the sum of the line lengths. */
+#define MIVURAKOL_CODE_ACCEPTED 0
+/* The reading is neither 0 nor 1. */
+#define MIVURAKOL_CODE_READING 1
+/* The text or the line list is over MIVURAKOL_LARGEST. */
+#define MIVURAKOL_CODE_TOO_LARGE 2
+/* Line `place` does not have start <= end <= text length. */
+#define MIVURAKOL_CODE_OUTSIDE 3
+/* Line `place` starts before the end of the one before. */
+#define MIVURAKOL_CODE_EARLY 4
+/* The queue room has fewer than 2N + 1 records. */
+#define MIVURAKOL_CODE_QUEUE_ROOM 5
+/* The opener room has fewer than N records. */
+#define MIVURAKOL_CODE_OPENER_ROOM 6
+/* A bare opening brace stands at byte `place`, outside verbatim. */
+#define MIVURAKOL_CODE_BRACE 7
+/* The label room does not hold the labels. */
+#define MIVURAKOL_CODE_LABEL_ROOM 8
+/* The event room does not hold the events; never for whoever lends N + 1 records. */
+#define MIVURAKOL_CODE_EVENT_ROOM 9
+
+/* The answer. A refusal has events and labels 0, and place 0 unless said. After the codes from
+ * MIVURAKOL_CODE_READING to MIVURAKOL_CODE_OPENER_ROOM no room is written. After a later code
+ * all four are zero. After MIVURAKOL_CODE_ACCEPTED, events and label bytes stand from the front,
+ * and all else is zero. */
 typedef struct {
     uint32_t code;
     uint32_t place;
@@ -44,8 +122,7 @@ typedef struct {
     size_t end;
 } mivurakol_line;
 
-/* Reads the lines of a text. Reading 0 is the Rust's, 1 the strict one. An event is seven numbers: kind, span start, span end, home, home start,
- * home end, link number. */
+/* Reads the lines of a text. Reading 0 is the Rust's, 1 the strict one. */
 mivurakol_answer mivurakol_read(
     const uint8_t *text, size_t text_len,
     const mivurakol_line *lines, size_t lines_len,
@@ -55,14 +132,15 @@ mivurakol_answer mivurakol_read(
     uint32_t *openers, size_t openers_len,
     uint8_t *labels, size_t labels_len);
 
-/* `len` bytes from `start` of the text (home 1) or of the label room (home 2). */
+/* `len` bytes from `start` of the text or of the label room. */
 typedef struct {
     uint32_t home;
     size_t start;
     size_t len;
 } mivurakol_part;
 
-/* Where the bytes of an event's home stand. An impossible home or range gives an empty part of the text. */
+/* Where the bytes of an event's home stand. An impossible home or range gives an empty part of the
+ * text. */
 mivurakol_part mivurakol_label(
     const uint8_t *text, size_t text_len,
     const uint8_t *labels, size_t labels_len,

@@ -1,12 +1,120 @@
-//! The reader for Rust: safe functions over the C interface of the static library `libmivurakol.a`. Any arguments will do, rooms of length 0
-//! included.
+//! The reader for Rust: safe functions over the C interface of the static library `libmivurakol.a`.
+//! Any arguments will do, rooms of length 0 included. Its numbers have their names here.
 
-/// What is answered of a sheet. Code 0 is accepted; a refusal has its number as code, and events and labels 0.
+/// Numbers in a record of the event room, of the queue room and of the opener room.
+pub const EVENT_NUMBERS: usize = 7;
+pub const QUEUE_NUMBERS: usize = 8;
+pub const OPENER_NUMBERS: usize = 4;
+
+/// The most bytes of a text, and the most lines.
+pub const LARGEST: usize = 1_048_576;
+
+/// Of a longer label room only so many bytes count.
+pub const LABEL_LIMIT: usize = 4_294_967_295;
+
+/// The longest run of backticks that opens or closes verbatim.
+pub const LONGEST_RUN: usize = 255;
+
+/// Of the program `./sheet`: the most bytes that it reads, and the bytes of its label room.
+pub const PROGRAM_BYTES: usize = 1000;
+pub const PROGRAM_LABELS: usize = 65_536;
+
+/// A record of the event room.
+pub type Event = [u32; EVENT_NUMBERS];
+
+/// Where the numbers of an event stand in its record: kind, span, home and the part of it, link
+/// number. Those with no meaning are 0.
+pub mod field {
+    pub const KIND: usize = 0;
+    pub const START: usize = 1;
+    pub const END: usize = 2;
+    pub const HOME: usize = 3;
+    pub const HOME_START: usize = 4;
+    pub const HOME_END: usize = 5;
+    pub const LINK: usize = 6;
+}
+
+/// The kinds that neither open nor close.
+pub mod kind {
+    pub const STR: u32 = 1;
+    pub const SOFTBREAK: u32 = 2;
+    pub const HARDBREAK: u32 = 3;
+    pub const ESCAPE: u32 = 4;
+    pub const NBSP: u32 = 5;
+    pub const ELLIPSIS: u32 = 6;
+    pub const EN_DASH: u32 = 7;
+    pub const EM_DASH: u32 = 8;
+    pub const LEFT_SINGLE_QUOTE: u32 = 9;
+    pub const RIGHT_SINGLE_QUOTE: u32 = 10;
+    pub const LEFT_DOUBLE_QUOTE: u32 = 11;
+    pub const RIGHT_DOUBLE_QUOTE: u32 = 12;
+    pub const SYMBOL: u32 = 13;
+    pub const FOOTNOTE_REFERENCE: u32 = 14;
+}
+
+/// Container k is entered by an event of kind `ENTER` + k, and left by one of kind `EXIT` + k.
+pub const ENTER: u32 = 32;
+pub const EXIT: u32 = 64;
+
+/// The containers, in the order of the source's `Container`. A span is never handed out.
+pub mod container {
+    pub const SPAN: u32 = 0;
+    pub const SUBSCRIPT: u32 = 1;
+    pub const SUPERSCRIPT: u32 = 2;
+    pub const INSERT: u32 = 3;
+    pub const DELETE: u32 = 4;
+    pub const EMPHASIS: u32 = 5;
+    pub const STRONG: u32 = 6;
+    pub const MARK: u32 = 7;
+    pub const VERBATIM: u32 = 8;
+    pub const RAW_FORMAT: u32 = 9;
+    pub const INLINE_MATH: u32 = 10;
+    pub const DISPLAY_MATH: u32 = 11;
+    pub const REFERENCE_LINK: u32 = 12;
+    pub const REFERENCE_IMAGE: u32 = 13;
+    pub const INLINE_LINK: u32 = 14;
+    pub const INLINE_IMAGE: u32 = 15;
+    pub const AUTOLINK: u32 = 16;
+}
+
+/// Where an event's symbol, footnote label, raw format, address or link label stands.
+pub mod home {
+    pub const NONE: u32 = 0;
+    pub const TEXT: u32 = 1;
+    /// The label room.
+    pub const LABELS: u32 = 2;
+}
+
+/// The codes of an answer. N is the sum of the line lengths.
+pub mod code {
+    pub const ACCEPTED: u32 = 0;
+    /// The reading is neither 0 nor 1.
+    pub const READING: u32 = 1;
+    /// The text or the line list is over `LARGEST`.
+    pub const TOO_LARGE: u32 = 2;
+    /// A line does not have start <= end <= text length.
+    pub const OUTSIDE: u32 = 3;
+    /// A line starts before the end of the one before.
+    pub const EARLY: u32 = 4;
+    /// The queue room has fewer than 2N + 1 records.
+    pub const QUEUE_ROOM: u32 = 5;
+    /// The opener room has fewer than N records.
+    pub const OPENER_ROOM: u32 = 6;
+    /// A bare opening brace stands outside verbatim.
+    pub const BRACE: u32 = 7;
+    /// The label room does not hold the labels.
+    pub const LABEL_ROOM: u32 = 8;
+    /// The event room does not hold the events; never for whoever lends N + 1 records.
+    pub const EVENT_ROOM: u32 = 9;
+}
+
+/// What is answered of a sheet. A refusal has events and labels 0.
 #[repr(C)]
 #[derive(Clone, Copy, Debug, Default, PartialEq, Eq)]
 pub struct Answer {
+    /// One of `code`.
     pub code: u32,
-    /// After 3 and 4 a line's index, after 7 a place in the text, else 0.
+    /// After `OUTSIDE` and `EARLY` a line's index, after `BRACE` a place in the text, else 0.
     pub place: u32,
     /// How many events stand in the event room.
     pub events: u32,
@@ -22,7 +130,8 @@ pub struct Line {
     pub end: usize,
 }
 
-/// What is lent for writing: seven numbers an event, eight a record of the queue, four an opener, and bytes for labels.
+/// What is lent for writing: records of `EVENT_NUMBERS`, `QUEUE_NUMBERS` and `OPENER_NUMBERS`
+/// numbers, and bytes for labels.
 pub struct Rooms<'a> {
     pub events: &'a mut [u32],
     pub queue: &'a mut [u32],
@@ -30,7 +139,7 @@ pub struct Rooms<'a> {
     pub labels: &'a mut [u8],
 }
 
-/// A part of the text (home 1) or of the label room (home 2).
+/// A part of the text or of the label room.
 #[repr(C)]
 struct Part {
     home: u32,
@@ -60,8 +169,8 @@ extern "C" {
 /// Reads a sheet: the lines of a text.
 pub fn read(text: &[u8], lines: &[Line], reading: u32, rooms: &mut Rooms) -> Answer {
     let Rooms { events, queue, openers, labels } = rooms;
-    // SAFETY: each pointer is that of a slice, with its length. The four that are written to are borrowed mutably, so no two slices overlap
-    // where one of them is written to.
+    // SAFETY: each pointer is that of a slice, with its length. The four that are written to are
+    // borrowed mutably, so no two slices overlap where one of them is written to.
     unsafe {
         mivurakol_read(
             text.as_ptr(),
@@ -81,10 +190,11 @@ pub fn read(text: &[u8], lines: &[Line], reading: u32, rooms: &mut Rooms) -> Ans
     }
 }
 
-/// The bytes of an event's home, from the text or from the label room; an impossible home or range gives an empty part of the text.
+/// The bytes of an event's home, from the text or from the label room; an impossible home or range
+/// gives an empty part of the text.
 pub fn label<'a>(text: &'a [u8], labels: &'a [u8], home: u32, start: u32, end: u32) -> &'a [u8] {
     // SAFETY: as above; nothing is written to.
     let part = unsafe { mivurakol_label(text.as_ptr(), text.len(), labels.as_ptr(), labels.len(), home, start, end) };
-    let of = if part.home == 2 { labels } else { text };
+    let of = if part.home == home::LABELS { labels } else { text };
     &of[part.start..part.start + part.len]
 }
