@@ -14,35 +14,22 @@ use Rattle.dash.specs.declared.Dashes.{Dashes}
 use Rattle.dash.specs.declared.Dots.{Dots}
 use Rattle.dash.proofs.Splits.{dots-whole}
 use Rattle.dash.specs.Dashes.{dotsOf}
-use Rattle.reading.specs.Events.{Home, homed, event, in-text, str, ellipsis, emdash, endash, enter, exit, autolink}
-use Rattle.reading.specs.Machine.{State, Turn, puts, put, no-str}
+use Rattle.reading.specs.declared.Home.{Home}
+use Rattle.reading.specs.Events.{homed, event, in-text, str, ellipsis, emdash, endash, enter, exit, autolink}
+use Rattle.reading.specs.Machine.{noting, State, Turn, puts, put, no-str}
 use Rattle.reading.specs.Atoms.{row, dots, dashes, autolinked, named}
 use Rattle.reading.proofs.Scanning.{row-long}
 use Rattle.rooms.specs.declared.Parser.{Parser}
 use Rattle.rooms.specs.declared.Margin.{Margin}
 use Rattle.rooms.specs.declared.Span.{Span}
 use Rattle.rooms.specs.Records.{events, eventAt}
-use Rattle.rooms.specs.Standing.{stands, viewed, here, staying, moved, Changed}
+use Rattle.rooms.specs.Standing.{stands, viewed, here, staying, moved, with-events, Changed}
 use Rattle.rooms.proofs.Rows.{rows-length}
 use Rattle.rooms.proofs.Changing.{changed-events, changed-cursor, then}
 
 -- one event more, noted
-abbrev pub pushed-on : Parser → Last → Parser
-pushed-on p l =
-    record {
-      cursor = p .cursor;
-      events = p .events + 1;
-      openers = p .openers;
-      inside = p .inside;
-      last = l;
-      labels = p .labels;
-      fits = p .fits;
-      links = p .links;
-      refused = p .refused;
-    }
-
 pub pushes : (p : Parser) (q q′ o : List ℕ) (e : Event) (l : Last) → events (p .events + 1) q′ ≡ events (p .events) q ++ (e ∷ [])
-    → Changed p q o (pushed-on p l) q′ o (staying p (puts (e ∷ []) l))
+    → Changed p q o (with-events p (p .events + 1) l) q′ o (staying p (puts (e ∷ []) l))
 pushes p q q′ o e l h = record { same = λ r. rw h; labels = refl }
 
 -- as many events more as were put
@@ -58,16 +45,7 @@ module _ (p : Parser) (q o : List ℕ) (r : Parser) (q′ : List ℕ) (es : List
 
 -- events put, and others behind them
 puts-puts : (ds es : List Event) (k l : Last) (s : State) → puts es l (puts ds k s) ≡ puts (ds ++ es) l s
-puts-puts ds es k l s = ap (λ (q : List Event). record {
-  queue = q;
-  openers = s .openers;
-  inside = s .inside;
-  last = l;
-  labels = s .labels;
-  fits = s .fits;
-  links = s .links;
-  refused = s .refused;
-}) (append-assoc (s .queue) ds es)
+puts-puts ds es k l s = ap (λ (q : List Event). noting q l s) (append-assoc (s .queue) ds es)
 
 module _ (p : Parser) (q o : List ℕ) (r : Parser) (q′ : List ℕ) (ds : List Event) (k : Last) (c : Changed p q o r q′ o (staying p (puts ds k))) where
   -- two changes that put events are one

@@ -2,22 +2,24 @@
 // newest event is noted as it is put.
 ghost use mathlib.Core.Path.{_≡_};
 ghost use mathlib.Core.List.{List, [], _∷_};
-ghost use mathlib.Core.Bool.{Bool};
 ghost use Prim.Native.Nat.{ℕ, _+_, _-_, _*_, _^_, _≤_, _<_};
 ghost use lib.ListN.{length};
 ghost use Rattle.reading.specs.Events as events;
+ghost use Rattle.reading.specs.Events.{largest};
 ghost use Rattle.reading.specs.Machine.{prev, dollarsOf, lastOf, puts};
 ghost use Rattle.reading.specs.Machine as machine;
-ghost use Rattle.reading.specs.Atoms as said;
+ghost use Rattle.reading.specs.Atoms as spec;
 ghost use Rattle.dash.specs.Dashes.{dashesOf};
-ghost use Rattle.rooms.specs.Records.{homeAs};
 ghost use Rattle.rooms.specs.Standing.{viewed, here, Changed, Fits, Room, staying};
 use lex::Cursor;
 use reading::Event;
+use reading::Home;
+use reading::IN_TEXT;
 use reading::Last;
 use reading::Link;
+use reading::NO_HOME;
 use reading::Place;
-use rooms::Home;
+use reading::kind;
 use rooms::Margin;
 use rooms::Parser;
 use rooms::Span;
@@ -32,10 +34,10 @@ pub fn place_at(m: Margin, i: usize) -> Place
 
 // No home.
 pub fn nowhere() -> Home
-    ensures { λ r. ⌜ homeAs r ≡ events.nowhere ⌝ }
+    ensures { λ r. ⌜ r ≡ events.nowhere ⌝ }
 {
     Home {
-        home: 0,
+        home: NO_HOME,
         start: Place(0),
         end: Place(0),
         link: Link(0),
@@ -46,10 +48,10 @@ pub fn nowhere() -> Home
 pub fn in_text(m: Margin, i: usize, j: usize) -> Home
     requires { ⌜ m .base + i < 2 ^ 32 ⌝ }
     requires { ⌜ m .base + j < 2 ^ 32 ⌝ }
-    ensures { λ r. ⌜ homeAs r ≡ events.in-text (m .base + i) (m .base + j) ⌝ }
+    ensures { λ r. ⌜ r ≡ events.in-text (m .base + i) (m .base + j) ⌝ }
 {
     Home {
-        home: 1,
+        home: IN_TEXT,
         start: place_at(m, i),
         end: place_at(m, j),
         link: Link(0),
@@ -60,7 +62,7 @@ pub fn in_text(m: Margin, i: usize, j: usize) -> Home
 pub fn homed(m: Margin, kind: u32, h: Home, i: usize, j: usize) -> Event
     requires { ⌜ m .base + i < 2 ^ 32 ⌝ }
     requires { ⌜ m .base + j < 2 ^ 32 ⌝ }
-    ensures { λ r. ⌜ r ≡ events.homed kind (homeAs h) (m .base + i) (m .base + j) ⌝ }
+    ensures { λ r. ⌜ r ≡ events.homed kind h (m .base + i) (m .base + j) ⌝ }
 {
     rooms::event_of(kind, place_at(m, i), place_at(m, j), h)
 }
@@ -121,7 +123,7 @@ fn last_of(line: &[u8], m: Margin, kind: u32, h: Span) -> Last
     requires { ⌜ Fits (now line) m h ⌝ }
     ensures { λ r. ⌜ r ≡ lastOf (viewed m (now (line .entry))) kind (h .from) (h .to) ⌝ }
 {
-    if kind == 1 {
+    if kind == kind::STR {
         return Last {
             str: true,
             end: place_at(m, h.to),
@@ -157,9 +159,9 @@ pub fn put(line: &[u8], m: Margin, kind: u32, h: Span, p: Parser, queue: &mut [u
 
 // So many events of a kind, each w bytes wide, from the i-th byte of the line on.
 fn row(m: Margin, kind: u32, w: usize, n: usize, i: usize, p: Parser, queue: &mut [u32]) -> Parser
-    requires { ⌜ m .base + i + n * w ≤ 1048576 ⌝ }
+    requires { ⌜ m .base + i + n * w ≤ largest ⌝ }
     requires { ⌜ Room n p (now queue) ⌝ }
-    ensures { λ r. ⌜ ((o : List ℕ) → Changed p (now (queue .entry)) o r (now (queue .exit)) o (staying p (puts (said.row kind w n (m .base + i)) machine.no-str))) ⌝ }
+    ensures { λ r. ⌜ ((o : List ℕ) → Changed p (now (queue .entry)) o r (now (queue .exit)) o (staying p (puts (spec.row kind w n (m .base + i)) machine.no-str))) ⌝ }
 {
     let none = no_str();
     let mut out = p;
@@ -179,54 +181,69 @@ pub fn dots(line: &[u8], m: Margin, h: Span, p: Parser, queue: &mut [u32]) -> Pa
     requires { ⌜ Fits (now line) m h ⌝ }
     requires { ⌜ h .from < h .to ⌝ }
     requires { ⌜ Room (h .to - h .from) p (now queue) ⌝ }
-    ensures { λ r. ⌜ ((o : List ℕ) → Changed p (now (queue .entry)) o r (now (queue .exit)) o (staying p (said.dots (viewed m
+    ensures { λ r. ⌜ ((o : List ℕ) → Changed p (now (queue .entry)) o r (now (queue .exit)) o (staying p (spec.dots (viewed m
         (now (line .entry))) (h .from) (h .to - h .from)))) ⌝ }
 {
     let d = dash::split_periods(h.to - h.from);
     let k = d.ellipses;
-    let out = row(m, 6, 3, k, h.from, p, queue);
+    let out = row(m, kind::ELLIPSIS, 3, k, h.from, p, queue);
     let rest = Span {
         from: h.from + 3 * k,
         to: h.to,
     };
-    put(line, m, 1, rest, out, queue)
+    put(line, m, kind::STR, rest, out, queue)
 }
 
 // A run of hyphens: em dashes, then en dashes.
 pub fn dashes(m: Margin, h: Span, p: Parser, queue: &mut [u32]) -> Parser
     requires { ⌜ h .from + 2 ≤ h .to ⌝ }
-    requires { ⌜ m .base + h .to ≤ 1048576 ⌝ }
+    requires { ⌜ m .base + h .to ≤ largest ⌝ }
     requires { ⌜ Room (h .to - h .from) p (now queue) ⌝ }
-    ensures { λ r. ⌜ ((o : List ℕ) → Changed p (now (queue .entry)) o r (now (queue .exit)) o (staying p (puts (said.dashes (dashesOf
+    ensures { λ r. ⌜ ((o : List ℕ) → Changed p (now (queue .entry)) o r (now (queue .exit)) o (staying p (puts (spec.dashes (dashesOf
         (h .to - h .from)) (m .base + h .from)) machine.no-str))) ⌝ }
 {
     let d = dash::split_hyphens(h.to - h.from);
-    let out = row(m, 8, 3, d.em, h.from, p, queue);
-    row(m, 7, 2, d.en, h.from + 3 * d.em, out, queue)
+    let out = row(m, kind::EM_DASH, 3, d.em, h.from, p, queue);
+    row(m, kind::EN_DASH, 2, d.en, h.from + 3 * d.em, out, queue)
 }
 
 // An autolink: behind `<`, an address of n bytes, and `>`.
 pub fn autolinked(m: Margin, h: Span, n: usize, p: Parser, queue: &mut [u32]) -> Parser
     requires { ⌜ h .from ≤ h .to ⌝ }
-    requires { ⌜ m .base + h .to + n + 1 ≤ 1048576 ⌝ }
+    requires { ⌜ m .base + h .to + n + 1 ≤ largest ⌝ }
     requires { ⌜ Room 3 p (now queue) ⌝ }
-    ensures { λ r. ⌜ ((o line : List ℕ) → Changed p (now (queue .entry)) o r (now (queue .exit)) o (said.autolinked (viewed m line) (here h p) n)) ⌝ }
+    ensures { λ r. ⌜ ((o line : List ℕ) → Changed p (now (queue .entry)) o r (now (queue .exit)) o (spec.autolinked (viewed m line) (here h p) n)) ⌝ }
 {
     let none = no_str();
     let end = h.to + n;
     let home = in_text(m, h.to, end);
-    let entered = push(queue, p, homed(m, 48, home, h.from, h.to), none);
-    let named = push(queue, entered, homed(m, 1, nowhere(), h.to, end), none);
-    let out = push(queue, named, homed(m, 80, home, end, end + 1), none);
+    let entered = push(
+        queue,
+        p,
+        homed(m, kind::ENTER_AUTOLINK, home, h.from, h.to),
+        none,
+    );
+    let named = push(
+        queue,
+        entered,
+        homed(m, kind::STR, nowhere(), h.to, end),
+        none,
+    );
+    let out = push(
+        queue,
+        named,
+        homed(m, kind::EXIT_AUTOLINK, home, end, end + 1),
+        none,
+    );
     rooms::moved(out, Cursor::new(end + 1, false))
 }
 
 // A symbol or a footnote reference, by its kind: a name of n bytes behind the token, and one byte that closes.
 pub fn named(m: Margin, h: Span, kind: u32, n: usize, p: Parser, queue: &mut [u32]) -> Parser
     requires { ⌜ h .from ≤ h .to ⌝ }
-    requires { ⌜ m .base + h .to + n + 1 ≤ 1048576 ⌝ }
+    requires { ⌜ m .base + h .to + n + 1 ≤ largest ⌝ }
     requires { ⌜ Room 1 p (now queue) ⌝ }
-    ensures { λ r. ⌜ ((o line : List ℕ) → Changed p (now (queue .entry)) o r (now (queue .exit)) o (said.named kind (viewed m line) (here h p) n)) ⌝ }
+    ensures { λ r. ⌜ ((o line : List ℕ) → Changed p (now (queue .entry)) o r (now (queue .exit)) o (spec.named kind (viewed m line) (here h p) n)) ⌝ }
 {
     let end = h.to + n;
     let out = push(

@@ -2,4 +2,3 @@
 pub mod Rule
 pub mod Runs
 pub mod Parts
-mod Bits

@@ -14,7 +14,8 @@ use Rattle.reading.specs.declared.Event.{Event}
 use Rattle.reading.specs.declared.Last.{Last}
 use Rattle.reading.specs.declared.Sort.{Sort}
 use Rattle.reading.specs.declared.Opener.{Opener}
-use Rattle.reading.specs.Events.{Home, nowhere, event, becomes, str}
+use Rattle.reading.specs.declared.Home.{Home}
+use Rattle.reading.specs.Events.{nowhere, event, becomes, str}
 use Rattle.reading.specs.Machine.{View, State, Turn, amend, puts, put, no-str}
 use Rattle.reading.specs.Tokens.{role-of, link-sort}
 use Rattle.reading.specs.Containers.{Along, along, by-itself, takes, span-with, closes-span, closes-pair}

@@ -25,13 +25,12 @@ use Rattle.rooms.specs.declared.Span.{Span}
 use Rattle.rooms.specs.declared.Found.{Found}
 use Rattle.rooms.specs.declared.Found.the-variants.{At, Nothing}
 use Rattle.rooms.specs.Records.{openerAt, opens, place}
-use Rattle.rooms.specs.Standing.{stands, viewed, here, moved, staying, Changed, Stepped}
-use Rattle.rooms.proofs.Rows.{pile-length}
+use Rattle.rooms.specs.Standing.{counting, stands, viewed, here, moved, staying, Changed, Stepped}
+use Rattle.rooms.proofs.Rows.{stack-length}
 use Rattle.rooms.proofs.Changing.{changed-stepped}
 use Rattle.rooms.proofs.Search.{found-at, place-none}
 use Rattle.links.specs.Linked.{linked, sheetOf}
-use Rattle.containers.specs.Ready.{Ready, Shelving, span-closed, closable}
-use Rattle.containers.proofs.Trying.{counting}
+use Rattle.containers.specs.Ready.{Ready, LabelRoom, span-closed, closable}
 
 -- what an opener names, by what its end makes
 pub named-pair : (x : Opener) (n : ℕ) (d : DelimEventKind) (k : Pair) → Names d x n → d ≡ makes.Pair k → x .event < n
@@ -85,7 +84,7 @@ unfolding small-by
 link-small s t e = subst small-by e (small-of s)
 
 -- the close of each sort
-module _ (m : Margin) (text line : List ℕ) (h : Span) (x : Opener) (p : Parser) (q o l : List ℕ) (sh : Shelving p l) (rules : Rules) where
+module _ (m : Margin) (text line : List ℕ) (h : Span) (x : Opener) (p : Parser) (q o l : List ℕ) (sh : LabelRoom p l) (rules : Rules) where
   abbrev closing : DelimEventKind → State → Turn
   closing d = close-as (sheetOf rules text l) (viewed m line) (here h p) x d
 
@@ -149,7 +148,7 @@ module _ (v : View) (h : Here) (s : State) (o : List ℕ) (mark n : ℕ) (f : Fo
 
       pub sought-closes : may-close v h s x ≡ true → At i ≡ closable v h s (seek mark (opens n o))
       unfolding closable
-      sought-closes t = sym (rw (sought, t, closable) (ap At (pile-length openerAt i o)))
+      sought-closes t = sym (rw (sought, t, closable) (ap At (stack-length openerAt i o)))
 
       sought-not : may-close v h s x ≡ false → Nothing ≡ closable v h s (seek mark (opens n o))
       unfolding closable

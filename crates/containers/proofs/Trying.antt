@@ -21,14 +21,14 @@ use Rattle.rooms.specs.declared.Parser.{Parser}
 use Rattle.rooms.specs.declared.Margin.{Margin}
 use Rattle.rooms.specs.declared.Span.{Span}
 use Rattle.rooms.specs.Records.{eventAt, events, opens}
-use Rattle.rooms.specs.Standing.{stands, viewed, here, moved, staying, Changed}
+use Rattle.rooms.specs.Standing.{counting, stands, viewed, here, moved, staying, Changed}
 use Rattle.rooms.proofs.Rows.{rows-length}
 
 -- the test of a closer
-pub close-told : (v : View) (h : Here) (s : State) (o : Opener) (n : ℕ) → length (s .queue) ≡ n → (e t k : Bool) → e ≡ may-be-empty (o .sort)
+pub close-tested : (v : View) (h : Here) (s : State) (o : Opener) (n : ℕ) → length (s .queue) ≡ n → (e t k : Bool) → e ≡ may-be-empty (o .sort)
     → t ≡ two-way (o .sort) → k ≡ blank (prev v (h .from)) → ((e || not (eqb (o .event + 1) n)) && not (t && k)) ≡ may-close v h s o
 unfolding may-close
-close-told v h s o n hn e t k ie it ik = rw (ie, it, ik, ← hn, add-one)
+close-tested v h s o n hn e t k ie it ik = rw (ie, it, ik, ← hn, add-one)
 
 -- the byte behind a token
 pub after-end : (v : View) (h : Here) → length (v .bytes) ≤ h .to → true ≡ blank-after v h
@@ -40,25 +40,10 @@ unfolding blank-after
 after-byte v h b l e = rw (lt-leb (length (v .bytes)) (h .to) l, blank-after) e
 
 -- the test of an opener
-pub open-told : (v : View) (h : Here) (s : State) (o : Sort) (t a g k : Bool) → t ≡ two-way o → a ≡ blank-after v h → g ≡ is-single o
+pub open-tested : (v : View) (h : Here) (s : State) (o : Sort) (t a g k : Bool) → t ≡ two-way o → a ≡ blank-after v h → g ≡ is-single o
     → k ≡ blank (prev v (h .from)) → (not (t && a) && not (g && s .last .str && not k)) ≡ may-open v h s o
 unfolding may-open
-open-told v h s o t a g k it ia ig ik = rw (it, ia, ig, ik)
-
--- another count of openers
-abbrev pub counting : Parser → ℕ → Parser
-counting p n =
-    record {
-      cursor = p .cursor;
-      events = p .events;
-      openers = n;
-      inside = p .inside;
-      last = p .last;
-      labels = p .labels;
-      fits = p .fits;
-      links = p .links;
-      refused = p .refused;
-    }
+open-tested v h s o t a g k it ia ig ik = rw (it, ia, ig, ik)
 
 -- an opener on the stack, whose event is put behind it
 module _ (m : Margin) (line : List ℕ) (h : Span) (sort : Sort) (span : ℕ) (p : Parser) (q o o′ : List ℕ)

@@ -8,7 +8,7 @@ use Rattle.lex.specs.Lexer.{nextOf, peekOf}
 use Rattle.lex.specs.Sound.{Sound}
 use Rattle.reading.specs.declared.Sort.{Sort}
 use Rattle.reading.specs.declared.Opener.{Opener}
-use Rattle.reading.specs.Events.{str}
+use Rattle.reading.specs.Events.{str, queue-numbers, opener-numbers, largest}
 use Rattle.reading.specs.Machine.{View, State, Turn, Here, put, with-openers}
 use Rattle.reading.specs.Containers.{closes-span, may-close}
 use Rattle.reading.specs.Naming.{Named}
@@ -22,17 +22,17 @@ use Rattle.rooms.specs.Records.{opens}
 pub record Ready (line : List ℕ) (m : Margin) (h : Span) (p : Parser) (q o : List ℕ) : Type 0 where
   pub long : h .from < h .to
   pub within : h .to ≤ length line
-  pub small : m .base + length line ≤ 1048576
+  pub small : m .base + length line ≤ largest
   pub place : p .cursor .pos ≡ h .to
   pub sound : Sound line (p .cursor)
-  pub room : (p .events + (length line - h .from)) * 8 ≤ length q
-  pub few : p .events + (length line - h .from) ≤ 1048576
-  pub shallow : p .openers + (length line - h .from) ≤ 1048576
-  pub stack : (p .openers + (length line - h .from)) * 4 ≤ length o
+  pub room : (p .events + (length line - h .from)) * queue-numbers ≤ length q
+  pub few : p .events + (length line - h .from) ≤ largest
+  pub shallow : p .openers + (length line - h .from) ≤ largest
+  pub stack : (p .openers + (length line - h .from)) * opener-numbers ≤ length o
   pub named : Named (opens (p .openers) o) (p .events)
 
 -- the labels and links that a link's end asks for
-pub record Shelving (p : Parser) (l : List ℕ) : Type 0 where
+pub record LabelRoom (p : Parser) (l : List ℕ) : Type 0 where
   pub labels : p .labels ≤ length l
   pub room : length l < 2 ^ 32
   pub links : p .links .0 + 1 < 2 ^ 32

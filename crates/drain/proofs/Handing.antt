@@ -9,7 +9,7 @@ use lib.Dec.{leb}
 use lib.ListN.{length, drop}
 use lib.Seq.{take-all}
 use Rattle.reading.specs.declared.Event.{Event}
-use Rattle.reading.specs.Events.{event, str, softbreak}
+use Rattle.reading.specs.Events.{event, str, softbreak, event-numbers}
 use Rattle.reading.specs.Draining.{flushed, drained, drain}
 use Rattle.reading.specs.Questions.{numbers}
 use Rattle.drain.specs.declared.Drained.the-variants.{All, Full}
@@ -33,10 +33,10 @@ answered-too-many k cap e = go (leb k cap) e
     go false e = refl
 
 -- all of them stand in the room
-pub handed-all : (es : List Event) (room : List ℕ) → leb (length es) (length room / 7) ≡ true
+pub handed-all : (es : List Event) (room : List ℕ) → leb (length es) (length room / event-numbers) ≡ true
     → handed es room ≡ numbers es ++ drop (length (numbers es)) room
 unfolding handed
-handed-all es room h = rw (take-all (length room / 7) es (leb-true (length es) (length room / 7) h))
+handed-all es room h = rw (take-all (length room / event-numbers) es (leb-true (length es) (length room / event-numbers) h))
 
 -- two Str that touch, a break, and an empty Str
 abbrev sample : List Event
@@ -47,7 +47,7 @@ sample-held : handed (drain sample) (9 ∷ 9 ∷ 9 ∷ 9 ∷ 9 ∷ 9 ∷ 9 ∷ 9
 unfolding flushed drained numbers handed
 sample-held = refl
 
-sample-counted : answered (length (drain sample)) (15 / 7) ≡ All 2
+sample-counted : answered (length (drain sample)) (15 / event-numbers) ≡ All 2
 unfolding flushed drained answered
 sample-counted = refl
 
@@ -55,6 +55,6 @@ sample-cut : handed (drain sample) (9 ∷ 9 ∷ 9 ∷ 9 ∷ 9 ∷ 9 ∷ 9 ∷ 9 
 unfolding flushed drained numbers handed
 sample-cut = refl
 
-sample-full : answered (length (drain sample)) (8 / 7) ≡ Full
+sample-full : answered (length (drain sample)) (8 / event-numbers) ≡ Full
 unfolding flushed drained answered
 sample-full = refl

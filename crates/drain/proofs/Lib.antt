@@ -1,3 +1,3 @@
-pub mod Pouring
-pub mod Turns
+pub mod Storing
+pub mod Steps
 pub mod Handing

@@ -5,6 +5,7 @@ use mathlib.Core.Bool.{true, false}
 use lib.Dec.{leb}
 use lib.ListN.{length, take, drop}
 use Rattle.reading.specs.declared.Event.{Event}
+use Rattle.reading.specs.Events.{event-numbers}
 use Rattle.reading.specs.Questions.{numbers}
 use Rattle.drain.specs.declared.Drained.{Drained}
 use Rattle.drain.specs.declared.Drained.the-variants.{All, Full}
@@ -16,5 +17,5 @@ answered k cap = elim (leb k cap) [ true ↦ All k | false ↦ Full ]
 -- as many events from the front as the room holds, and the rest of the room as it was
 unfoldable pub handed : List Event → List ℕ → List ℕ
 handed es room =
-    let out = numbers (take (length room / 7) es) in
+    let out = numbers (take (length room / event-numbers) es) in
     out ++ drop (length out) room

@@ -1,2 +1,2 @@
 pub mod Handing
-pub mod Pouring
+pub mod Storing

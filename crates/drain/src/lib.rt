@@ -5,15 +5,18 @@ ghost use Prim.Native.Nat.{ℕ, _+_, _*_, _/_, _≤_};
 ghost use lib.ListN.{length};
 ghost use lib.Seq.{sets};
 ghost use Rattle.reading.specs.declared.Event.{Event};
-ghost use Rattle.reading.specs.Events.{event, str};
+ghost use Rattle.reading.specs.Events.{event, str, event-numbers, queue-numbers};
 ghost use Rattle.reading.specs.Draining.{flushed, drained, drain};
 ghost use Rattle.reading.specs.Questions.{numbers};
 ghost use Rattle.rooms.specs.Records.{events};
 ghost use Rattle.drain.specs.Handing.{answered, handed};
-ghost use Rattle.drain.specs.Pouring.{out, put, pour, rest};
+ghost use Rattle.drain.specs.Storing.{out, put, put-all, rest};
+use reading::EVENT_NUMBERS;
 use reading::Event;
 use reading::Link;
+use reading::NO_HOME;
 use reading::Place;
+use reading::kind;
 
 // All events were handed out, so many; or the room was full before the last.
 pub enum Drained {
@@ -29,15 +32,15 @@ struct Held {
 }
 
 // After an event of the queue.
-enum Turn {
+enum Progress {
     On(Held),
     Full,
 }
 
-// The events of a queue of n records, seven numbers each.
+// The events of a queue of n records.
 pub fn drain(queue: &[u32], n: usize, room: &mut [u32]) -> Drained
-    requires { ⌜ n * 8 ≤ length (now queue) ⌝ }
-    ensures { λ r. ⌜ r ≡ answered (length (drain (events n (now (queue .entry))))) (length (now (room .entry)) / 7) ⌝ }
+    requires { ⌜ n * queue-numbers ≤ length (now queue) ⌝ }
+    ensures { λ r. ⌜ r ≡ answered (length (drain (events n (now (queue .entry))))) (length (now (room .entry)) / event-numbers) ⌝ }
     ensures { λ r. ⌜ now (room .exit) ≡ handed (drain (events n (now (queue .entry)))) (now (room .entry)) ⌝ }
 {
     let mut h = Held {
@@ -47,7 +50,7 @@ pub fn drain(queue: &[u32], n: usize, room: &mut [u32]) -> Drained
     };
     let mut i = 0;
     while i < n {
-        let Turn::On(next) = drain_event(room, h, rooms::event_at(queue, i)) else {
+        let Progress::On(next) = drain_event(room, h, rooms::event_at(queue, i)) else {
             return Drained::Full;
         };
         h = next;
@@ -57,25 +60,25 @@ pub fn drain(queue: &[u32], n: usize, room: &mut [u32]) -> Drained
 }
 
 // One event of the queue: a Str grows the one before it if it touches.
-fn drain_event(room: &mut [u32], h: Held, e: Event) -> Turn
-    ensures { λ r. ⌜ ((es : List Event) → rest es r (now (room .exit)) ≡ pour (drained (h .start) (h .end) (e ∷ es)) (out (Drained.All (h .count)) (now (room .entry)))) ⌝ }
+fn drain_event(room: &mut [u32], h: Held, e: Event) -> Progress
+    ensures { λ r. ⌜ ((es : List Event) → rest es r (now (room .exit)) ≡ put-all (drained (h .start) (h .end) (e ∷ es)) (out (Drained.All (h .count)) (now (room .entry)))) ⌝ }
 {
     let start = e.start;
     let end = e.end;
-    if e.kind != 1 {
+    if e.kind != kind::STR {
         return drain_other(room, h, e);
     }
     if h.end == start.0 {
-        return Turn::On(Held {
+        return Progress::On(Held {
             count: h.count,
             start: h.start,
             end: end.0,
         });
     }
     let Drained::All(count) = flush(room, h) else {
-        return Turn::Full;
+        return Progress::Full;
     };
-    Turn::On(Held {
+    Progress::On(Held {
         count: count,
         start: start.0,
         end: end.0,
@@ -83,17 +86,17 @@ fn drain_event(room: &mut [u32], h: Held, e: Event) -> Turn
 }
 
 // One that is no Str.
-fn drain_other(room: &mut [u32], h: Held, e: Event) -> Turn
-    ensures { λ r. ⌜ ((es : List Event) → rest es r (now (room .exit)) ≡ pour (flushed (h .start) (h .end) (e ∷ drained (e .end .0) (e .end .0) es)) (out (Drained.All (h .count)) (now (room .entry)))) ⌝ }
+fn drain_other(room: &mut [u32], h: Held, e: Event) -> Progress
+    ensures { λ r. ⌜ ((es : List Event) → rest es r (now (room .exit)) ≡ put-all (flushed (h .start) (h .end) (e ∷ drained (e .end .0) (e .end .0) es)) (out (Drained.All (h .count)) (now (room .entry)))) ⌝ }
 {
     let end = e.end;
     let Drained::All(flushed) = flush(room, h) else {
-        return Turn::Full;
+        return Progress::Full;
     };
     let Drained::All(count) = hand_out(room, flushed, e) else {
-        return Turn::Full;
+        return Progress::Full;
     };
-    Turn::On(Held {
+    Progress::On(Held {
         count: count,
         start: end.0,
         end: end.0,
@@ -102,7 +105,7 @@ fn drain_other(room: &mut [u32], h: Held, e: Event) -> Turn
 
 // The Str that was held, if it is not empty.
 fn flush(room: &mut [u32], h: Held) -> Drained
-    ensures { λ r. ⌜ out r (now (room .exit)) ≡ pour (flushed (h .start) (h .end) []) (out (Drained.All (h .count)) (now (room .entry))) ⌝ }
+    ensures { λ r. ⌜ out r (now (room .exit)) ≡ put-all (flushed (h .start) (h .end) []) (out (Drained.All (h .count)) (now (room .entry))) ⌝ }
 {
     if h.start == h.end {
         return Drained::All(h.count);
@@ -115,10 +118,10 @@ fn str_of(start: u32, end: u32) -> Event
     ensures { λ r. ⌜ r ≡ event str start end ⌝ }
 {
     Event {
-        kind: 1,
+        kind: kind::STR,
         start: Place(start),
         end: Place(end),
-        home: 0,
+        home: NO_HOME,
         home_start: Place(0),
         home_end: Place(0),
         link: Link(0),
@@ -129,7 +132,7 @@ fn str_of(start: u32, end: u32) -> Event
 fn hand_out(room: &mut [u32], count: usize, e: Event) -> Drained
     ensures { λ r. ⌜ out r (now (room .exit)) ≡ put e (Drained.All count) (now (room .entry)) ⌝ }
 {
-    if count < room.len() / 7 {
+    if count < room.len() / EVENT_NUMBERS {
         store(room, count, e);
         return Drained::All(count + 1);
     }
@@ -138,10 +141,10 @@ fn hand_out(room: &mut [u32], count: usize, e: Event) -> Drained
 
 // The stores of an event, in plain terms.
 fn store(room: &mut [u32], count: usize, e: Event)
-    requires { ⌜ count * 7 + 7 ≤ length (now room) ⌝ }
-    ensures { λ _. ⌜ now (room .exit) ≡ sets (now (room .entry)) (count * 7) (numbers (e ∷ [])) ⌝ }
+    requires { ⌜ count * event-numbers + event-numbers ≤ length (now room) ⌝ }
+    ensures { λ _. ⌜ now (room .exit) ≡ sets (now (room .entry)) (count * event-numbers) (numbers (e ∷ [])) ⌝ }
 {
-    let at = count * 7;
+    let at = count * EVENT_NUMBERS;
     let start = e.start;
     let end = e.end;
     let home_start = e.home_start;

@@ -22,7 +22,7 @@ use Rattle.scan.specs.declared.Ahead.the-variants as ahead
 use Rattle.dash.specs.declared.Dashes.{Dashes}
 use Rattle.dash.specs.declared.Dots.{Dots}
 use Rattle.exports.specs.declared.Mark.{Mark}
-use Rattle.exports.specs.declared.State.{State}
+use Rattle.exports.specs.declared.CursorNumbers.{CursorNumbers}
 use Rattle.exports.specs.declared.Step.{Step}
 use Rattle.exports.specs.declared.Scanned.{Scanned}
 use Rattle.exports.specs.declared.Counts.{Counts}
@@ -100,10 +100,10 @@ markOf next.None = record { kind = 42; len = 0 }
 unfoldable pub tokenOf : Mark → Next
 tokenOf m = elim (ltb (m .kind) 42) [ true ↦ next.Some (record { kind = getD kinds (m .kind) Text; len = m .len }) | false ↦ next.None ]
 
-abbrev pub cursorOf : State → Cursor
+abbrev pub cursorOf : CursorNumbers → Cursor
 cursorOf s = record { pos = s .pos; escape = s .escape; next = tokenOf (s .next); verbatim = s .verbatim }
 
-abbrev pub stateOf : Cursor → State
+abbrev pub stateOf : Cursor → CursorNumbers
 stateOf c = record { pos = c .pos; escape = c .escape; verbatim = c .verbatim; next = markOf (c .next) }
 
 abbrev pub stepOf : Lexed → Step

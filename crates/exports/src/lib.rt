@@ -6,10 +6,11 @@ ghost use lib.ListN.{length, drop};
 ghost use Rattle.lex.specs.Lexer.{freshOf, peekOf, nextOf};
 ghost use Rattle.scan.specs.Scans.{autolinkOf, symbolOf, footnoteOf, rawFormatOf};
 ghost use Rattle.dash.specs.Dashes.{dashesOf, dotsOf};
+ghost use Rattle.reading.specs.Events.{event-numbers};
 ghost use Rattle.reading.specs.Questions.{total, outcome};
 ghost use Rattle.reading.specs.Walked.{Accepted};
 ghost use Rattle.inline.specs.Lines.{lines-of};
-ghost use Rattle.reader.specs.Telling.{lent, told};
+ghost use Rattle.outcome.specs.Outcomes.{rooms-of, outcome-of};
 ghost use Rattle.exports.specs.Numbers.{delimiterNumber, symbolNumber, sequenceNumber, kindNumber, markOf, tokenOf, cursorOf, stateOf, stepOf};
 ghost use Rattle.exports.specs.Numbers.{scannedOf, dashCounts, dotCounts};
 use lex::Cursor;
@@ -78,7 +79,7 @@ pub struct Mark {
 
 // A cursor.
 #[repr(C)]
-pub struct State {
+pub struct CursorNumbers {
     pub pos: usize,
     pub escape: bool,
     pub verbatim: bool,
@@ -89,7 +90,7 @@ pub struct State {
 #[repr(C)]
 pub struct Step {
     pub token: Mark,
-    pub state: State,
+    pub state: CursorNumbers,
 }
 
 // What a scan found.
@@ -201,7 +202,7 @@ fn token_of(m: Mark) -> Next
     }
 }
 
-fn cursor_of(s: State) -> Cursor
+fn cursor_of(s: CursorNumbers) -> Cursor
     ensures { λ r. ⌜ r ≡ cursorOf s ⌝ }
 {
     let m = s.next;
@@ -213,11 +214,11 @@ fn cursor_of(s: State) -> Cursor
     }
 }
 
-fn state_of(c: Cursor) -> State
+fn state_of(c: Cursor) -> CursorNumbers
     ensures { λ r. ⌜ r ≡ stateOf c ⌝ }
 {
     let next = c.next;
-    State {
+    CursorNumbers {
         pos: c.pos,
         escape: c.escape,
         verbatim: c.verbatim,
@@ -237,24 +238,26 @@ fn step_of(l: Lexed) -> Step
 }
 
 #[no_mangle]
-pub extern "C" fn mivurakol_cursor(pos: usize, verbatim: bool) -> State
+pub extern "C" fn mivurakol_cursor(pos: usize, verbatim: bool) -> CursorNumbers
     ensures { λ r. ⌜ r ≡ stateOf (freshOf pos verbatim) ⌝ }
 {
     state_of(Cursor::new(pos, verbatim))
 }
 
 #[no_mangle]
-pub extern "C" fn mivurakol_peek(src: &[u8], s: State) -> Step
+pub extern "C" fn mivurakol_peek(src: &[u8], s: CursorNumbers) -> Step
     ensures { λ r. ⌜ r ≡ stepOf (peekOf (now (src .entry)) (cursorOf s)) ⌝ }
 {
-    step_of(lexer::peek_token(src, cursor_of(s)))
+    let flags = classes::classes();
+    step_of(lexer::peek_token(src, cursor_of(s), &flags))
 }
 
 #[no_mangle]
-pub extern "C" fn mivurakol_next(src: &[u8], s: State) -> Step
+pub extern "C" fn mivurakol_next(src: &[u8], s: CursorNumbers) -> Step
     ensures { λ r. ⌜ r ≡ stepOf (nextOf (now (src .entry)) (cursorOf s)) ⌝ }
 {
-    step_of(lexer::next_token(src, cursor_of(s)))
+    let flags = classes::classes();
+    step_of(lexer::next_token(src, cursor_of(s), &flags))
 }
 
 fn scanned_of(a: Ahead) -> Scanned
@@ -276,28 +279,32 @@ fn scanned_of(a: Ahead) -> Scanned
 pub extern "C" fn mivurakol_autolink(src: &[u8], from: usize) -> Scanned
     ensures { λ r. ⌜ r ≡ scannedOf (autolinkOf (drop from (now (src .entry)))) ⌝ }
 {
-    scanned_of(scan::ahead_autolink(src, from))
+    let flags = classes::classes();
+    scanned_of(scan::ahead_autolink(src, from, &flags))
 }
 
 #[no_mangle]
 pub extern "C" fn mivurakol_symbol(src: &[u8], from: usize) -> Scanned
     ensures { λ r. ⌜ r ≡ scannedOf (symbolOf (drop from (now (src .entry)))) ⌝ }
 {
-    scanned_of(scan::ahead_symbol(src, from))
+    let flags = classes::classes();
+    scanned_of(scan::ahead_symbol(src, from, &flags))
 }
 
 #[no_mangle]
 pub extern "C" fn mivurakol_footnote(src: &[u8], from: usize) -> Scanned
     ensures { λ r. ⌜ r ≡ scannedOf (footnoteOf (drop from (now (src .entry)))) ⌝ }
 {
-    scanned_of(scan::ahead_footnote(src, from))
+    let flags = classes::classes();
+    scanned_of(scan::ahead_footnote(src, from, &flags))
 }
 
 #[no_mangle]
 pub extern "C" fn mivurakol_raw_format(src: &[u8], from: usize) -> Scanned
     ensures { λ r. ⌜ r ≡ scannedOf (rawFormatOf (drop from (now (src .entry)))) ⌝ }
 {
-    scanned_of(scan::ahead_raw_format(src, from))
+    let flags = classes::classes();
+    scanned_of(scan::ahead_raw_format(src, from, &flags))
 }
 
 #[no_mangle]
@@ -334,13 +341,13 @@ pub extern "C" fn mivurakol_read_numbers(
     openers: &mut [u32],
     labels: &mut [u8],
 ) -> Answer
-    ensures { λ r. ⌜ told r (now (events .exit)) (now (queue .exit)) (now (openers .exit)) (now (labels .exit)) ≡ outcome (now (text .entry))
-        (lines-of (now (starts .entry)) (now (ends .entry))) reading (lent (now (events .entry)) (now (queue .entry)) (now (openers .entry)) (now
+    ensures { λ r. ⌜ outcome-of r (now (events .exit)) (now (queue .exit)) (now (openers .exit)) (now (labels .exit)) ≡ outcome (now (text .entry))
+        (lines-of (now (starts .entry)) (now (ends .entry))) reading (rooms-of (now (events .entry)) (now (queue .entry)) (now (openers .entry)) (now
         (labels .entry))) ⌝ }
-    ensures { λ r. ⌜ (r .code ≡ 0 → Accepted (now (text .entry)) (lines-of (now (starts .entry)) (now (ends .entry))) reading (lent (now (events
-        .entry)) (now (queue .entry)) (now (openers .entry)) (now (labels .entry))) (told r (now (events .exit)) (now (queue .exit)) (now (openers
+    ensures { λ r. ⌜ (r .code ≡ 0 → Accepted (now (text .entry)) (lines-of (now (starts .entry)) (now (ends .entry))) reading (rooms-of (now (events
+        .entry)) (now (queue .entry)) (now (openers .entry)) (now (labels .entry))) (outcome-of r (now (events .exit)) (now (queue .exit)) (now (openers
         .exit)) (now (labels .exit)))) ⌝ }
-    ensures { λ r. ⌜ (total (lines-of (now (starts .entry)) (now (ends .entry))) + 1 ≤ length (now (events .entry)) / 7 → r .code ≡ 9 → ⊥) ⌝ }
+    ensures { λ r. ⌜ (total (lines-of (now (starts .entry)) (now (ends .entry))) + 1 ≤ length (now (events .entry)) / event-numbers → r .code ≡ 9 → ⊥) ⌝ }
 {
     reader::read(text, starts, ends, reading, events, queue, openers, labels)
 }

@@ -14,14 +14,13 @@ use Rattle.lex.specs.declared.lex.Lexed.{Lexed}
 use Rattle.lex.specs.Lexer.{nextOf}
 use Rattle.reading.specs.declared.Place.{Place}
 use Rattle.reading.specs.declared.Last.{Last}
-use Rattle.reading.specs.Events.{link}
 use Rattle.reading.specs.declared.Refused.{Refused}
 use Rattle.reading.specs.declared.Refused.the-variants as refused
 use Rattle.reading.specs.declared.Role.{Role}
 use Rattle.reading.specs.declared.Verbatim.{Verbatim}
 use Rattle.reading.specs.declared.Inside.{Inside}
 use Rattle.reading.specs.declared.Inside.the-variants as inside
-use Rattle.reading.specs.Machine.{byte-before, View, Sheet, State, Turn, rulesOf, no-str}
+use Rattle.reading.specs.Machine.{noting, byte-before, View, Sheet, State, Turn, rulesOf, no-str}
 use Rattle.reading.specs.Tokens.{role-of}
 use Rattle.reading.specs.Verbatim.{in-verbatim, ended-at}
 use Rattle.reading.specs.Reading.{outside, by-place, here-at, on-token, step, start, sheet}
@@ -29,10 +28,10 @@ use Rattle.reading.proofs.Places.{HereOk, here-ok}
 use Rattle.rooms.specs.declared.Parser.{Parser}
 use Rattle.rooms.specs.declared.Margin.{Margin}
 use Rattle.rooms.specs.declared.Span.{Span}
-use Rattle.rooms.specs.Rows.{rows, pile}
-use Rattle.rooms.specs.Standing.{stands, turn, viewed, here, moved, staying, Changed, Stepped, Fits}
+use Rattle.rooms.specs.Rows.{rows, stack}
+use Rattle.rooms.specs.Standing.{freshOf, stands, turn, viewed, here, moved, staying, Changed, Stepped, Fits}
 use Rattle.verbatim.specs.Opened.{Opened, OpenedBy}
-use Rattle.containers.specs.Ready.{Ready, Shelving}
+use Rattle.containers.specs.Ready.{Ready, LabelRoom}
 use Rattle.outside.specs.Outside.{Ending, Ended}
 use Rattle.inline.specs.Asks.{Before, overOf, ending, Closing}
 
@@ -87,8 +86,8 @@ module _ (text : List ℕ) (reading : ℕ) (line : List ℕ) (m : Margin) (p : P
             named = b .named;
           }
 
-      pub event-shelving : Shelving u l
-      event-shelving = subst (λ (y : Parser). Shelving y l) (sym there) record { labels = b .labels; room = b .label-room; links = b .links }
+      pub event-label-room : LabelRoom u l
+      event-label-room = subst (λ (y : Parser). LabelRoom y l) (sym there) record { labels = b .labels; room = b .label-room; links = b .links }
 
       pub event-ended : p .inside ≡ inside.No → Ended u q
       event-ended e =
@@ -162,29 +161,6 @@ module _ (b : ℕ) (p : Parser) (q : List ℕ) where
   end-opened e c = subst (λ (y : Refused). Closing y p q) e c
 
 -- a fresh parser stands for the start
-pub fresh-stands : (c : Cursor) (n : Last) → n ≡ no-str → (q o l : List ℕ)
-    → stands
-    (record {
-      cursor = c;
-      events = 0;
-      openers = 0;
-      inside = inside.No;
-      last = n;
-      labels = 0;
-      fits = true;
-      links = link 0;
-      refused = refused.No;
-    }) q o l
-    ≡ start
-unfolding rows pile
-fresh-stands c n e q o l =
-    ap (λ (x : Last). record {
-      queue = [];
-      openers = [];
-      inside = inside.No;
-      last = x;
-      labels = [];
-      fits = true;
-      links = link 0;
-      refused = refused.No;
-    }) e
+pub fresh-stands : (c : Cursor) (n : Last) → n ≡ no-str → (q o l : List ℕ) → stands (freshOf c n) q o l ≡ start
+unfolding rows stack
+fresh-stands c n e q o l = ap (λ (x : Last). noting [] x start) e

@@ -29,7 +29,7 @@ use Rattle.rooms.specs.declared.Parser.{Parser}
 use Rattle.rooms.specs.declared.Margin.{Margin}
 use Rattle.rooms.specs.Records.{eventAt, events, openerAt, opens}
 use Rattle.rooms.specs.Standing.{stands, turn, viewed, Stepped}
-use Rattle.rooms.proofs.Rows.{rows-length, rows-at, pile-length}
+use Rattle.rooms.proofs.Rows.{rows-length, rows-at, stack-length}
 use Rattle.verbatim.specs.Opened.{OpenedBy, Begun}
 use Rattle.outside.specs.Outside.{Ended}
 use Rattle.inline.specs.Asks.{Before, StandsFor, overOf}
@@ -154,7 +154,7 @@ module _ (text line : List ℕ) (m : Margin) (reading : ℕ) (q₀ o₀ l₀ : L
         let on = on-still (length line) (out .cursor .pos) (out .refused) e in
         let f = t .held .good (on .0) in
         let n : out .events ≤ t .count + out .cursor .pos = omega (arith, t .held .few, rows-length eventAt (out .events) q) in
-        let k : out .openers ≤ t .count + out .cursor .pos = omega (arith, t .held .opens, pile-length openerAt (out .openers) o) in
+        let k : out .openers ≤ t .count + out .cursor .pos = omega (arith, t .held .opens, stack-length openerAt (out .openers) o) in
         record {
           sound = t .held .sound;
           small = t .small;

@@ -1,4 +1,4 @@
--- What the parser asks of its rooms, at a token, at a line and at a sheet; and what it is told by.
+-- What the parser asks of its rooms, at a token, at a line and at a sheet; and what its contracts are stated in.
 use Prim.Native.Nat.{ℕ, _+_, _-_, _*_, _^_, _≤_, _<_}
 use mathlib.Core.Path.{_≡_}
 use mathlib.Core.List.{List}
@@ -10,6 +10,7 @@ use Rattle.reading.specs.declared.Inside.the-variants as inside
 use Rattle.reading.specs.declared.Refused.{Refused}
 use Rattle.reading.specs.declared.Refused.the-variants as refused
 use Rattle.reading.specs.declared.Line.{Line}
+use Rattle.reading.specs.Events.{queue-numbers, opener-numbers, largest}
 use Rattle.reading.specs.Machine.{State, viewOf}
 use Rattle.reading.specs.Verbatim.{ended-at}
 use Rattle.reading.specs.Reading.{sheet, lines, views, start}
@@ -26,11 +27,11 @@ use Rattle.inline.specs.Lines.{none}
 -- at a token: a sound cursor, and rooms for what the rest of the line can give
 pub record Before (line : List ℕ) (m : Margin) (p : Parser) (q o l : List ℕ) : Type 0 where
   pub sound : Sound line (p .cursor)
-  pub small : m .base + length line ≤ 1048576
-  pub room : (p .events + (length line - p .cursor .pos)) * 8 ≤ length q
-  pub few : p .events + (length line - p .cursor .pos) ≤ 1048576
-  pub shallow : p .openers + (length line - p .cursor .pos) ≤ 1048576
-  pub stack : (p .openers + (length line - p .cursor .pos)) * 4 ≤ length o
+  pub small : m .base + length line ≤ largest
+  pub room : (p .events + (length line - p .cursor .pos)) * queue-numbers ≤ length q
+  pub few : p .events + (length line - p .cursor .pos) ≤ largest
+  pub shallow : p .openers + (length line - p .cursor .pos) ≤ largest
+  pub stack : (p .openers + (length line - p .cursor .pos)) * opener-numbers ≤ length o
   pub named : Named (opens (p .openers) o) (p .events)
   pub opened : OpenedBy (p .inside) p q
   pub ended : p .inside ≡ inside.No → Ended p q
@@ -45,11 +46,11 @@ pub record StandsFor (r : Parser) (q o l : List ℕ) (s : State) : Type 0 where
 
 -- a sheet that passes questions 2 to 6 of document 01, with a label room of 32 bits
 pub record Sheeted (text : List ℕ) (ls : List Line) (q o l : List ℕ) : Type 0 where
-  pub small : length text ≤ 1048576
-  pub listed : length ls ≤ 1048576
+  pub small : length text ≤ largest
+  pub listed : length ls ≤ largest
   pub fed : Fed text ls
-  pub room : (2 * total ls + 1) * 8 ≤ length q
-  pub stack : total ls * 4 ≤ length o
+  pub room : (2 * total ls + 1) * queue-numbers ≤ length q
+  pub stack : total ls * opener-numbers ≤ length o
   pub label-room : length l < 2 ^ 32
 
 -- at a line of the text: it is the next line of such a sheet, and the parser stands for what the lines before it give

@@ -2,11 +2,11 @@
 ghost use mathlib.Core.Path.{_≡_};
 ghost use mathlib.Core.Bool.{false};
 ghost use mathlib.Core.List.{List};
-ghost use Prim.Native.Nat.{ℕ, _+_, _*_, _^_, _≤_, _<_};
+ghost use Prim.Native.Nat.{ℕ, _+_, _^_, _≤_, _<_};
 ghost use lib.ListN.{length};
+ghost use Rattle.classes.specs.Classes.{Ruled};
 ghost use Rattle.lex.specs.Lexer.{freshOf};
 ghost use Rattle.reading.specs.Machine.{byte-before, viewOf};
-ghost use Rattle.reading.specs.Verbatim as said;
 ghost use Rattle.reading.specs.Reading.{step, line as line-of, read as read-of, start, sheet};
 ghost use Rattle.rooms.specs.Standing.{stands, viewed, Stepped, Changed, Room, staying};
 ghost use Rattle.inline.specs.Asks.{Before, Lined, LineFed, Sheeted, StandsFor, ending, overOf, Closing};
@@ -15,9 +15,9 @@ use lex::Cursor;
 use lex::Kind;
 use lex::Next;
 use reading::Inside;
-use reading::Link;
 use reading::Place;
 use reading::Refused;
+use reading::kind;
 use rooms::Margin;
 use rooms::Parser;
 use rooms::Span;
@@ -32,14 +32,16 @@ fn parse_event(
     queue: &mut [u32],
     openers: &mut [u32],
     labels: &mut [u8],
+    flags: &[u8; 256],
 ) -> Parser
     requires { ⌜ Before (now line) m p (now queue) (now openers) (now labels) ⌝ }
+    requires { ⌜ Ruled (now flags) ⌝ }
     ensures { λ r. ⌜ Stepped p (now (queue .entry)) (now (openers .entry)) (now (labels .entry)) r (now (queue .exit)) (now (openers .exit))
         (now (labels .exit)) (λ s. step (sheet (now (text .entry)) reading (length (now (labels .entry)))) (viewed m (now (line .entry)))
         (record { cursor = p .cursor; state = s })) ⌝ }
 {
     let c = p.cursor;
-    let lexed = c.next(line);
+    let lexed = lexer::next_token(line, c, flags);
     let behind = lexed.cursor;
     let next = lexed.token;
     let Next::Some(t) = next else {
@@ -54,7 +56,7 @@ fn parse_event(
     let w = p.inside;
     match w {
         Inside::No => match kind {
-            Kind::Text => atoms::put(line, m, 1, h, out, queue),
+            Kind::Text => atoms::put(line, m, kind::STR, h, out, queue),
             _ => outside::outside(
                 text,
                 line,
@@ -65,9 +67,10 @@ fn parse_event(
                 queue,
                 openers,
                 labels,
+                flags,
             ),
         },
-        Inside::Verbatim(v) => verbatim::in_verbatim(line, m, h, t, v, reading, out, queue),
+        Inside::Verbatim(v) => verbatim::in_verbatim(line, m, h, t, v, reading, out, queue, flags),
     }
 }
 
@@ -93,8 +96,10 @@ fn read_line(
     queue: &mut [u32],
     openers: &mut [u32],
     labels: &mut [u8],
+    flags: &[u8; 256],
 ) -> Parser
     requires { ⌜ Lined (now text) (now line) m reading p (now queue) (now openers) (now labels) ⌝ }
+    requires { ⌜ Ruled (now flags) ⌝ }
     ensures { λ r. ⌜ StandsFor r (now (queue .exit)) (now (openers .exit)) (now (labels .exit)) (line-of (sheet (now (text .entry)) reading
         (length (now (labels .entry)))) (viewed m (now (line .entry))) (stands p (now (queue .entry)) (now (openers .entry))
         (now (labels .entry)))) ⌝ }
@@ -106,7 +111,7 @@ fn read_line(
         if over(n, out) {
             return out;
         }
-        out = parse_event(text, line, m, reading, out, queue, openers, labels);
+        out = parse_event(text, line, m, reading, out, queue, openers, labels, flags);
         left -= 1;
     }
     out
@@ -136,15 +141,17 @@ pub fn feed_line(
     queue: &mut [u32],
     openers: &mut [u32],
     labels: &mut [u8],
+    flags: &[u8; 256],
 ) -> Parser
     requires { ⌜ LineFed (now text) (record { start = start; end = end }) reading p (now queue) (now openers) (now labels) ⌝ }
+    requires { ⌜ Ruled (now flags) ⌝ }
     ensures { λ r. ⌜ StandsFor r (now (queue .exit)) (now (openers .exit)) (now (labels .exit)) (line-of (sheet (now (text .entry)) reading
         (length (now (labels .entry)))) (viewOf (now (text .entry)) (record { start = start; end = end })) (stands p (now (queue .entry))
         (now (openers .entry)) (now (labels .entry)))) ⌝ }
 {
     let m = margin_of(text, start);
     let line = &text[start..end];
-    read_line(text, line, m, reading, p, queue, openers, labels)
+    read_line(text, line, m, reading, p, queue, openers, labels, flags)
 }
 
 // Nothing is queued, open or refused at first.
@@ -153,17 +160,7 @@ pub fn fresh() -> Parser
     ensures { λ r. ⌜ r .labels ≡ 0 ⌝ }
     ensures { λ r. ⌜ r .cursor ≡ freshOf 0 false ⌝ }
 {
-    Parser {
-        cursor: Cursor::new(0, false),
-        events: 0,
-        openers: 0,
-        inside: Inside::No,
-        last: atoms::no_str(),
-        labels: 0,
-        fits: true,
-        links: Link(0),
-        refused: Refused::No,
-    }
+    rooms::fresh(Cursor::new(0, false), atoms::no_str())
 }
 
 // The end: a verbatim that is still open gets its exit.
@@ -195,13 +192,14 @@ pub fn parse(
     ensures { λ r. ⌜ StandsFor r (now (queue .exit)) (now (openers .exit)) (now (labels .exit)) (read-of (sheet (now (text .entry)) reading
         (length (now (labels .entry)))) (lines-of (now (starts .entry)) (now (ends .entry)))) ⌝ }
 {
+    let flags = classes::classes();
     let mut p = fresh();
     let mut end = 0;
     let mut i = 0;
     while i < starts.len() {
         let start = starts[i];
         end = ends[i];
-        p = feed_line(text, start, end, reading, p, queue, openers, labels);
+        p = feed_line(text, start, end, reading, p, queue, openers, labels, &flags);
         i += 1;
     }
     finish(end, p, queue)

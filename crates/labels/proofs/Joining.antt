@@ -12,13 +12,13 @@ use Rattle.reading.specs.Labels.{part, stretches, pieces, separator}
 use Rattle.rooms.specs.Records.{eventAt, events}
 use Rattle.labels.specs.declared.Built.{Built}
 use Rattle.labels.specs.declared.Joint.{Joint}
-use Rattle.labels.specs.Building.{Filled, Wrote, Joined, gap, stretch, break-of, touching, reached}
-use Rattle.labels.proofs.Filling.{filled-none, filled-as, filled-on, filled-then, filled-stuck}
+use Rattle.labels.specs.Building.{Appended, Wrote, WroteJoint, gap, stretch, break-of, touching, reached}
+use Rattle.labels.proofs.Appending.{filled-none, filled-as, filled-on, filled-then, filled-stuck}
 use Rattle.labels.proofs.Parts.{events-next, events-end}
 
 -- what stands between two pieces
 module _ (l : List ℕ) (used : ℕ) (inline apart : Bool) (h : used ≤ length l) where
-  pub gap-inline : inline ≡ true → Filled l used (λ y. gap inline apart ++ y) l used true (λ y. y)
+  pub gap-inline : inline ≡ true → Appended l used (λ y. gap inline apart ++ y) l used true (λ y. y)
   unfolding gap
   gap-inline e = filled-as (filled-none l used (λ y. y) true h refl) (λ y. gap inline apart ++ y) (λ y. y) (λ y. rw e (go apart y)) (λ y. refl)
     where
@@ -26,7 +26,7 @@ module _ (l : List ℕ) (used : ℕ) (inline apart : Bool) (h : used ≤ length 
       go true y = refl
       go false y = refl
 
-  pub gap-none : apart ≡ false → Filled l used (λ y. gap inline apart ++ y) l used true (λ y. y)
+  pub gap-none : apart ≡ false → Appended l used (λ y. gap inline apart ++ y) l used true (λ y. y)
   unfolding gap
   gap-none e = filled-as (filled-none l used (λ y. y) true h refl) (λ y. gap inline apart ++ y) (λ y. y) (λ y. rw (e, gap)) (λ y. refl)
 
@@ -36,7 +36,7 @@ gap-space inline apart a i = rw (a, i, gap)
 
 -- one byte
 pub byte-newline : (inline : Bool) (l : List ℕ) (j r : Joint) (b : ℕ) → b ≡ 10 → r ≡ break-of j → j .used ≤ length l → j .fits ≡ true
-    → Joined inline l j (b ∷ []) r l
+    → WroteJoint inline l j (b ∷ []) r l
 unfolding pieces
 byte-newline inline l j r b e is h t =
     rw is
@@ -46,7 +46,7 @@ byte-newline inline l j r b e is h t =
 
 module _ (inline : Bool) (l l₁ : List ℕ) (j : Joint) (b : ℕ) (g : Built) (ne : b ≡ 10 → ⊥)
     (x : Wrote l (j .used) (gap inline (j .apart)) g l₁) where
-  byte-gap : Filled l (j .used) (λ y. pieces (separator inline) (j .begun) (j .apart) (b ∷ y)) l₁ (g .used) (g .fits)
+  byte-gap : Appended l (j .used) (λ y. pieces (separator inline) (j .begun) (j .apart) (b ∷ y)) l₁ (g .used) (g .fits)
       (λ y. b ∷ pieces (separator inline) true false y)
   unfolding pieces gap
   byte-gap =
@@ -55,11 +55,11 @@ module _ (inline : Bool) (l l₁ : List ℕ) (j : Joint) (b : ℕ) (g : Built) (
       (λ y. rw (ne-eqb b 10 ne, pieces)) (λ y. refl)
 
   pub byte-stuck : (g′ : List ℕ → List ℕ) → g .fits ≡ false
-      → Filled l (j .used) (λ y. pieces (separator inline) (j .begun) (j .apart) (b ∷ y)) l₁ (g .used) false g′
+      → Appended l (j .used) (λ y. pieces (separator inline) (j .begun) (j .apart) (b ∷ y)) l₁ (g .used) false g′
   byte-stuck g′ e = filled-stuck byte-gap g′ false e refl
 
   pub byte-put : (l₂ : List ℕ) (r : Built) → g .fits ≡ true → Wrote l₁ (g .used) (b ∷ []) r l₂
-      → Filled l (j .used) (λ y. pieces (separator inline) (j .begun) (j .apart) (b ∷ y)) l₂ (r .used) (r .fits)
+      → Appended l (j .used) (λ y. pieces (separator inline) (j .begun) (j .apart) (b ∷ y)) l₂ (r .used) (r .fits)
       (λ y. pieces (separator inline) true false y)
   byte-put l₂ r e z = filled-then byte-gap e (filled-on z (λ y. pieces (separator inline) true false y))
 
@@ -82,11 +82,11 @@ touching-pieces false j sep bs = refl
 
 -- one event: its bytes, behind a newline where its span does not touch the one before it
 pub stretch-joined : (inline : Bool) (text : List ℕ) (e : Event) (at : ℕ) (l l′ : List ℕ) (j j′ r : Joint) (bs : List ℕ)
-    → j′ ≡ reached at (e .start .0) j → bs ≡ part text (e .start .0) (e .end .0) → Joined inline l j′ bs r l′
-    → Joined inline l j (stretch text at e) r l′
+    → j′ ≡ reached at (e .start .0) j → bs ≡ part text (e .start .0) (e .end .0) → WroteJoint inline l j′ bs r l′
+    → WroteJoint inline l j (stretch text at e) r l′
 unfolding stretch
 stretch-joined inline text e at l l′ j j′ r bs to cut z =
-    subst (λ (u : ℕ). Filled l u (λ y. pieces (separator inline) (j .begun) (j .apart) (stretch text at e ++ y)) l′ (r .used) (r .fits)
+    subst (λ (u : ℕ). Appended l u (λ y. pieces (separator inline) (j .begun) (j .apart) (stretch text at e ++ y)) l′ (r .used) (r .fits)
     (λ y. pieces (separator inline) (r .begun) (r .apart) y))
     (ap (λ (x : Joint). x .used) to ∙ touching-used (eqb at (e .start .0)) j)
     (filled-as z (λ y. pieces (separator inline) (j .begun) (j .apart) (stretch text at e ++ y)) (λ y. pieces (separator inline) (r .begun) (r .apart) y)
@@ -95,10 +95,10 @@ stretch-joined inline text e at l l′ j j′ r bs to cut z =
 
 -- a loop over the events of a destination
 module _ {l : List ℕ} {used : ℕ} {f : List ℕ → List ℕ} {l₁ : List ℕ} (inline : Bool) (j : Joint) (text q : List ℕ) (at n i : ℕ)
-    (x : Filled l used f l₁ (j .used) (j .fits) (λ y. pieces (separator inline) (j .begun) (j .apart) (stretches text at (drop i (events n q)))))
+    (x : Appended l used f l₁ (j .used) (j .fits) (λ y. pieces (separator inline) (j .begun) (j .apart) (stretches text at (drop i (events n q)))))
   where
-    pub lines-turn : (e : Event) (r : Joint) (l₂ : List ℕ) → i < n → j .fits ≡ true → e ≡ eventAt q i → Joined inline l₁ j (stretch text at e) r l₂
-        → Filled l used f l₂ (r .used) (r .fits) (λ y. pieces (separator inline) (r .begun) (r .apart) (stretches text (e .end .0) (drop (i + 1) (events n q))))
+    pub lines-turn : (e : Event) (r : Joint) (l₂ : List ℕ) → i < n → j .fits ≡ true → e ≡ eventAt q i → WroteJoint inline l₁ j (stretch text at e) r l₂
+        → Appended l used f l₂ (r .used) (r .fits) (λ y. pieces (separator inline) (r .begun) (r .apart) (stretches text (e .end .0) (drop (i + 1) (events n q))))
     unfolding stretches stretch
     lines-turn e r l₂ h t is z =
         filled-then x t
@@ -110,6 +110,6 @@ module _ {l : List ℕ} {used : ℕ} {f : List ℕ → List ℕ} {l₁ : List �
         next : drop i (events n q) ≡ e ∷ drop (suc i) (events n q)
         next = events-next q n i h ∙ ap (λ (a : Event). a ∷ drop (suc i) (events n q)) (sym is)
 
-    pub lines-last : n ≤ i → Filled l used f l₁ (j .used) (j .fits) (λ y. [])
+    pub lines-last : n ≤ i → Appended l used f l₁ (j .used) (j .fits) (λ y. [])
     unfolding stretches pieces
     lines-last h = filled-as x f (λ y. []) (λ y. refl) (λ y. rw (events-end q n i h))

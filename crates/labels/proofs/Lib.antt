@@ -1,5 +1,5 @@
 -- The mathematics of building a label: what is written and what is left, by bytes, events and lines; and its home.
-pub mod Filling
+pub mod Appending
 pub mod Parts
 pub mod Joining
-pub mod Shelving
+pub mod Homes

@@ -12,8 +12,8 @@ use Rattle.reading.specs.declared.Event.{Event}
 use Rattle.reading.specs.Labels.{part, word, words}
 use Rattle.rooms.specs.Records.{eventAt, events}
 use Rattle.rooms.proofs.Rows.{rows-length, rows-at}
-use Rattle.labels.specs.Building.{Filled}
-use Rattle.labels.proofs.Filling.{filled-as, filled-on, filled-then}
+use Rattle.labels.specs.Building.{Appended}
+use Rattle.labels.proofs.Appending.{filled-as, filled-on, filled-then}
 
 pub part-none : (text : List ℕ) (a b : ℕ) → b ≤ a → [] ≡ part text a b
 part-none text a b h = let z : b - a ≡ 0 = omega arith in rw z
@@ -52,16 +52,16 @@ module _ (q : List ℕ) (n i : ℕ) where
 
 -- a loop over the events of a link's text
 module _ {l : List ℕ} {used : ℕ} {f : List ℕ → List ℕ} {l₁ : List ℕ} {used₁ : ℕ} {fits : Bool} (text q : List ℕ) (n i : ℕ)
-    (x : Filled l used f l₁ used₁ fits (λ y. words text (drop i (events n q)))) where
+    (x : Appended l used f l₁ used₁ fits (λ y. words text (drop i (events n q)))) where
   pub words-turn : {l₂ : List ℕ} {used₂ : ℕ} {fits₂ : Bool} (e : Event) → i < n → fits ≡ true → e ≡ eventAt q i
-      → Filled l₁ used₁ (λ y. word text e ++ y) l₂ used₂ fits₂ (λ y. y)
-      → Filled l used f l₂ used₂ fits₂ (λ y. words text (drop (i + 1) (events n q)))
+      → Appended l₁ used₁ (λ y. word text e ++ y) l₂ used₂ fits₂ (λ y. y)
+      → Appended l used f l₂ used₂ fits₂ (λ y. words text (drop (i + 1) (events n q)))
   unfolding words
   words-turn e h t is z =
       filled-then x t
       (filled-as (filled-on z (λ y. words text (drop (i + 1) (events n q)))) (λ y. words text (drop i (events n q)))
       (λ y. words text (drop (i + 1) (events n q))) (λ y. rw (add-one, events-next q n i h, is)) (λ y. refl))
 
-  pub words-last : n ≤ i → Filled l used f l₁ used₁ fits (λ y. [])
+  pub words-last : n ≤ i → Appended l used f l₁ used₁ fits (λ y. [])
   unfolding words
   words-last h = filled-as x f (λ y. []) (λ y. refl) (λ y. rw (events-end q n i h))

@@ -4,13 +4,18 @@ ghost use mathlib.Core.List.{[], _∷_};
 ghost use mathlib.Core.Bool.{true, false};
 ghost use Prim.Native.Nat.{suc, _+_, _-_, _*_, _^_, _≤_, _<_};
 ghost use lib.ListN.{length, take, drop};
-ghost use Rattle.reading.specs.Labels.{part as partOf, word as wordOf, words as wordsOf, stretches, pieces, separator, label-of, shelved};
+ghost use Rattle.reading.specs.Events.{queue-numbers};
+ghost use Rattle.reading.specs.Labels.{part as partOf, word as wordOf, words as wordsOf, stretches, pieces, separator, label-of, label-home};
 ghost use Rattle.rooms.specs.Records.{eventAt, events};
-ghost use Rattle.labels.specs.Building.{Shelves, Whole, Wrote, Joined, gap as gapOf, stretch as stretchOf, break-of, reached as reachedOf, in-text, unbuilt as unbuiltOf, shelve as shelveOf};
+ghost use Rattle.labels.specs.Building.{LabelStands, WroteAll, Wrote, WroteJoint, gap as gapOf, stretch as stretchOf, break-of, reached as reachedOf, in-text, unbuilt as unbuiltOf, in-room};
 use reading::Event;
+use reading::Home;
+use reading::IN_LABELS;
+use reading::IN_TEXT;
 use reading::Link;
+use reading::NO_HOME;
 use reading::Place;
-use rooms::Home;
+use reading::kind;
 
 // What a link's label is made from: its destination's opener and its text's `[` as places in the queue, whether the destination is inline,
 // the start of the current line, where the destination ends, and the link's number.
@@ -24,7 +29,7 @@ pub struct Destination {
 }
 
 // A label's home, and the label room behind it: bytes used, and whether all labels fitted.
-pub struct Shelf {
+pub struct LabelHome {
     pub home: Home,
     pub labels: usize,
     pub fits: bool,
@@ -103,13 +108,13 @@ fn word(text: &[u8], e: Event, labels: &mut [u8], used: usize) -> Built
     requires { ⌜ used ≤ length (now labels) ⌝ }
     ensures { λ r. ⌜ Wrote (now (labels .entry)) used (wordOf (now (text .entry)) e) r (now (labels .exit)) ⌝ }
 {
-    if (32 <= e.kind) | (e.kind == 4) {
+    if (kind::ENTER <= e.kind) | (e.kind == kind::ESCAPE) {
         return Built {
             used: used,
             fits: true,
         };
     }
-    if (e.kind == 2) | (e.kind == 3) {
+    if (e.kind == kind::SOFTBREAK) | (e.kind == kind::HARDBREAK) {
         return put(labels, used, b' ');
     }
     let start = e.start;
@@ -123,9 +128,9 @@ fn word(text: &[u8], e: Event, labels: &mut [u8], used: usize) -> Built
 
 // The events of the link's text, of the first n those from a place on.
 fn words(text: &[u8], queue: &[u32], from: usize, n: usize, labels: &mut [u8], used: usize) -> Built
-    requires { ⌜ n * 8 ≤ length (now queue) ⌝ }
+    requires { ⌜ n * queue-numbers ≤ length (now queue) ⌝ }
     requires { ⌜ used ≤ length (now labels) ⌝ }
-    ensures { λ r. ⌜ Whole (now (labels .entry)) used (wordsOf (now (text .entry)) (drop from (events n (now (queue .entry))))) r (now (labels .exit)) ⌝ }
+    ensures { λ r. ⌜ WroteAll (now (labels .entry)) used (wordsOf (now (text .entry)) (drop from (events n (now (queue .entry))))) r (now (labels .exit)) ⌝ }
 {
     let mut built = Built {
         used: used,
@@ -163,7 +168,7 @@ fn gap(labels: &mut [u8], used: usize, inline: bool, apart: bool) -> Built
 fn byte(b: u8, labels: &mut [u8], j: Joint, inline: bool) -> Joint
     requires { ⌜ j .used ≤ length (now labels) ⌝ }
     requires { ⌜ j .fits ≡ true ⌝ }
-    ensures { λ r. ⌜ Joined inline (now (labels .entry)) j (b ∷ []) r (now (labels .exit)) ⌝ }
+    ensures { λ r. ⌜ WroteJoint inline (now (labels .entry)) j (b ∷ []) r (now (labels .exit)) ⌝ }
 {
     if b == b'\n' {
         return newline(j);
@@ -202,7 +207,7 @@ fn newline(j: Joint) -> Joint
 fn bytes(s: &[u8], labels: &mut [u8], entry: Joint, inline: bool) -> Joint
     requires { ⌜ entry .used ≤ length (now labels) ⌝ }
     requires { ⌜ entry .fits ≡ true ⌝ }
-    ensures { λ r. ⌜ Joined inline (now (labels .entry)) entry (now (s .entry)) r (now (labels .exit)) ⌝ }
+    ensures { λ r. ⌜ WroteJoint inline (now (labels .entry)) entry (now (s .entry)) r (now (labels .exit)) ⌝ }
 {
     let mut j = entry;
     let mut i = 0;
@@ -220,7 +225,7 @@ fn bytes(s: &[u8], labels: &mut [u8], entry: Joint, inline: bool) -> Joint
 fn stretch(text: &[u8], e: Event, at: u32, labels: &mut [u8], j: Joint, inline: bool) -> Joint
     requires { ⌜ j .used ≤ length (now labels) ⌝ }
     requires { ⌜ j .fits ≡ true ⌝ }
-    ensures { λ r. ⌜ Joined inline (now (labels .entry)) j (stretchOf (now (text .entry)) at e) r (now (labels .exit)) ⌝ }
+    ensures { λ r. ⌜ WroteJoint inline (now (labels .entry)) j (stretchOf (now (text .entry)) at e) r (now (labels .exit)) ⌝ }
 {
     let start = e.start;
     let end = e.end;
@@ -249,9 +254,9 @@ fn lines(
     used: usize,
     inline: bool,
 ) -> Built
-    requires { ⌜ n * 8 ≤ length (now queue) ⌝ }
+    requires { ⌜ n * queue-numbers ≤ length (now queue) ⌝ }
     requires { ⌜ used ≤ length (now labels) ⌝ }
-    ensures { λ r. ⌜ Whole (now (labels .entry)) used (pieces (separator inline) false false
+    ensures { λ r. ⌜ WroteAll (now (labels .entry)) used (pieces (separator inline) false false
         (stretches (now (text .entry)) end (drop from (events n (now (queue .entry)))))) r (now (labels .exit)) ⌝ }
 {
     let mut j = Joint {
@@ -279,12 +284,12 @@ fn lines(
 }
 
 // A label that is a part of the text.
-fn home_in_text(from: Place, to: Place, link: Link, used: usize, fits: bool) -> Shelf
+fn home_in_text(from: Place, to: Place, link: Link, used: usize, fits: bool) -> LabelHome
     ensures { λ r. ⌜ r ≡ in-text from to link used fits ⌝ }
 {
-    Shelf {
+    LabelHome {
         home: Home {
-            home: 1,
+            home: IN_TEXT,
             start: from,
             end: to,
             link: link,
@@ -295,12 +300,12 @@ fn home_in_text(from: Place, to: Place, link: Link, used: usize, fits: bool) -> 
 }
 
 // A label that does not fit, or comes after one that did not: it has no home.
-fn unbuilt(link: Link, used: usize) -> Shelf
+fn unbuilt(link: Link, used: usize) -> LabelHome
     ensures { λ r. ⌜ r ≡ unbuiltOf link used ⌝ }
 {
-    Shelf {
+    LabelHome {
         home: Home {
-            home: 0,
+            home: NO_HOME,
             start: Place(0),
             end: Place(0),
             link: link,
@@ -311,17 +316,17 @@ fn unbuilt(link: Link, used: usize) -> Shelf
 }
 
 // A label that was built behind the first bytes of the room. What was built of one that did not fit is not counted.
-fn shelve(link: Link, used: usize, built: Built) -> Shelf
+fn home_in_room(link: Link, used: usize, built: Built) -> LabelHome
     requires { ⌜ used < 2 ^ 32 ⌝ }
     requires { ⌜ built .used < 2 ^ 32 ⌝ }
-    ensures { λ r. ⌜ r ≡ shelveOf link used built ⌝ }
+    ensures { λ r. ⌜ r ≡ in-room link used built ⌝ }
 {
     if !built.fits {
         return unbuilt(link, used);
     }
-    Shelf {
+    LabelHome {
         home: Home {
-            home: 2,
+            home: IN_LABELS,
             start: Place(used as u32),
             end: Place(built.used as u32),
             link: link,
@@ -340,13 +345,13 @@ pub fn label_of(
     labels: &mut [u8],
     used: usize,
     fits: bool,
-) -> Shelf
-    requires { ⌜ n * 8 ≤ length (now queue) ⌝ }
+) -> LabelHome
+    requires { ⌜ n * queue-numbers ≤ length (now queue) ⌝ }
     requires { ⌜ d .event < n ⌝ }
     requires { ⌜ d .span + 2 ≤ d .event ⌝ }
     requires { ⌜ used ≤ length (now labels) ⌝ }
     requires { ⌜ length (now labels) < 2 ^ 32 ⌝ }
-    ensures { λ r. ⌜ Shelves r (now (labels .exit)) (shelved (length (now (labels .entry))) (d .link) (take used (now (labels .entry))) fits
+    ensures { λ r. ⌜ LabelStands r (now (labels .exit)) (label-home (length (now (labels .entry))) (d .link) (take used (now (labels .entry))) fits
         (label-of (now (text .entry)) (d .inline) (d .base) (d .at .0) (eventAt (now (queue .entry)) (d .event))
         (drop (suc (d .span)) (take (d .event - 1) (events n (now (queue .entry))))) (drop (suc (d .event)) (events n (now (queue .entry)))))) ⌝ }
 {
@@ -364,8 +369,8 @@ pub fn label_of(
     }
     if by_text {
         let built = words(text, queue, d.span + 1, d.event - 1, labels, used);
-        return shelve(link, used, built);
+        return home_in_room(link, used, built);
     }
     let built = lines(text, queue, d.event + 1, n, end.0, labels, used, d.inline);
-    shelve(link, used, built)
+    home_in_room(link, used, built)
 }

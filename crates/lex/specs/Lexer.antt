@@ -1,4 +1,4 @@
--- The lexer (document 01, "Lexer"): the tokens of a line's bytes, which the rules on inlines of the Djot syntax reference are told by.
+-- The lexer (document 01, "Lexer"): the tokens of a line's bytes, which the rules on inlines of the Djot syntax reference speak of.
 use Prim.Native.Nat.{ℕ, suc, _+_, _-_}
 use Prim.Native.Char.{code}
 use mathlib.Core.List.{List, [], _∷_}

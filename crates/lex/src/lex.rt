@@ -1,7 +1,8 @@
-// The lexer of `lex.rs`, over a line's bytes and a cursor by value.
+// The lexer of `lex.rs`, over a line's bytes and a cursor by value. The byte classes are read from the lent table.
 ghost use mathlib.Core.Path.{_≡_};
 ghost use Prim.Native.Nat.{_<_};
 ghost use lib.ListN.{length, getD, drop};
+ghost use Rattle.classes.specs.Classes.{Ruled};
 ghost use Rattle.lex.specs.Lexer.{token as lexToken, chOf, startOf, begunBy, begunOf, escapedOf, lexed, isText, pendingOf, joinedOf};
 ghost use Rattle.lex.specs.Lexer.{holdingOf, freshOf, foundBy, takenOf, nextOf, peekOf};
 use classes::Set;
@@ -125,7 +126,8 @@ impl Cursor {
     }
 
     // The next token, which is held.
-    pub fn peek(self, src: &[u8]) -> Lexed
+    pub fn peek(self, src: &[u8], flags: &[u8; 256]) -> Lexed
+        requires { ⌜ Ruled (now flags) ⌝ }
         ensures { λ r. ⌜ r ≡ peekOf (now (src .entry)) self ⌝ }
     {
         let held = self.next;
@@ -135,7 +137,7 @@ impl Cursor {
                 cursor: self,
             },
             Next::None => {
-                let found = Cursor::token(src, self.pos, self.escape);
+                let found = Cursor::token(src, self.pos, self.escape, flags);
                 Lexed {
                     token: found,
                     cursor: self.holding(self.pos, found),
@@ -145,18 +147,20 @@ impl Cursor {
     }
 
     // The next token: the held one as it is, or a lexed one.
-    pub fn next(self, src: &[u8]) -> Lexed
+    pub fn next(self, src: &[u8], flags: &[u8; 256]) -> Lexed
+        requires { ⌜ Ruled (now flags) ⌝ }
         ensures { λ r. ⌜ r ≡ nextOf (now (src .entry)) self ⌝ }
     {
         let held = self.next;
         match held {
             Next::Some(t) => self.take(src, t),
-            Next::None => self.next_token(src),
+            Next::None => self.next_token(src, flags),
         }
     }
 
-    // The cursor behind the next token.
-    pub fn skip(self, src: &[u8]) -> Cursor
+    // The cursor behind the next token, for who has peeked at it.
+    pub fn skip(self, src: &[u8], flags: &[u8; 256]) -> Cursor
+        requires { ⌜ Ruled (now flags) ⌝ }
         ensures { λ r. ⌜ r ≡ nextOf (now (src .entry)) self .cursor ⌝ }
     {
         let held = self.next;
@@ -166,7 +170,7 @@ impl Cursor {
                 taken.cursor
             }
             Next::None => {
-                let lexed = self.next_token(src);
+                let lexed = self.next_token(src, flags);
                 lexed.cursor
             }
         }
@@ -203,11 +207,12 @@ impl Cursor {
     }
 
     // A lexed token. Text is joined, and the token behind it is held.
-    fn next_token(self, src: &[u8]) -> Lexed
+    fn next_token(self, src: &[u8], flags: &[u8; 256]) -> Lexed
+        requires { ⌜ Ruled (now flags) ⌝ }
         ensures { λ r. ⌜ r ≡ foundBy self (drop (self .pos) (now (src .entry))) (lexed (self .escape) (drop (self .pos) (now (src .entry)))) ⌝ }
     {
         let pos = self.pos;
-        let current = Cursor::token(src, pos, self.escape);
+        let current = Cursor::token(src, pos, self.escape, flags);
         let Next::Some(t) = current else {
             return Lexed {
                 token: current,
@@ -227,7 +232,7 @@ impl Cursor {
                 cursor: cursor,
             };
         }
-        let j = join(src, end);
+        let j = join(src, end, flags);
         let stop = j.end;
         let next = j.next;
         let text = Token {
@@ -253,7 +258,8 @@ impl Cursor {
     }
 
     // The token at a place.
-    fn token(src: &[u8], pos: usize, escape: bool) -> Next
+    fn token(src: &[u8], pos: usize, escape: bool, flags: &[u8; 256]) -> Next
+        requires { ⌜ Ruled (now flags) ⌝ }
         ensures { λ r. ⌜ r ≡ lexed escape (drop pos (now (src .entry))) ⌝ }
     {
         if src.len() <= pos {
@@ -261,9 +267,9 @@ impl Cursor {
         }
         let s = &src[pos..];
         if escape {
-            return Next::Some(escaped(s));
+            return Next::Some(escaped(s, flags));
         }
-        Next::Some(begun(s))
+        Next::Some(begun(s, flags))
     }
 }
 
@@ -292,12 +298,13 @@ fn pending(next: Next, verbatim: bool) -> bool
 }
 
 // The Text tokens from a place on.
-fn join(src: &[u8], from: usize) -> Joined
+fn join(src: &[u8], from: usize, flags: &[u8; 256]) -> Joined
+    requires { ⌜ Ruled (now flags) ⌝ }
     ensures { λ r. ⌜ r ≡ joinedOf (now (src .entry)) from ⌝ }
 {
     let mut end = from;
     loop {
-        let next = Cursor::token(src, end, false);
+        let next = Cursor::token(src, end, false, flags);
         let Next::Some(t) = next else {
             return Joined {
                 end: end,
@@ -322,8 +329,9 @@ fn peek_byte_n(s: &[u8], n: usize) -> u8
 }
 
 // The token at a byte that a backslash escapes.
-fn escaped(s: &[u8]) -> Token
+fn escaped(s: &[u8], flags: &[u8; 256]) -> Token
     requires { ⌜ 0 < length (now s) ⌝ }
+    requires { ⌜ Ruled (now flags) ⌝ }
     ensures { λ r. ⌜ r ≡ escapedOf (now (s .entry)) ⌝ }
 {
     let b = s[0];
@@ -333,7 +341,7 @@ fn escaped(s: &[u8]) -> Token
             len: 1,
         };
     }
-    let n = classes::eat_while(s, Set::SpaceTab);
+    let n = classes::eat_while(s, Set::SpaceTab, flags);
     if (0 < n) & (peek_byte_n(s, n) == b'\n') {
         return Token {
             kind: Kind::Hardbreak,
@@ -385,19 +393,20 @@ fn start_of(b: u8) -> Start
 }
 
 // The token at a byte that is not escaped.
-fn begun(s: &[u8]) -> Token
+fn begun(s: &[u8], flags: &[u8; 256]) -> Token
     requires { ⌜ 0 < length (now s) ⌝ }
+    requires { ⌜ Ruled (now flags) ⌝ }
     ensures { λ r. ⌜ r ≡ begunOf (now (s .entry)) ⌝ }
 {
     match start_of(s[0]) {
         Start::Text => Token {
             kind: Kind::Text,
-            len: classes::eat_plain(s),
+            len: classes::eat_plain(s, flags),
         },
         Start::Sole(kind) => Token { kind: kind, len: 1 },
         Start::Closing(kind, d) => maybe_eat_close_brace(s, kind, d),
         Start::Brace => brace(s),
-        Start::Backslash => backslash(s),
+        Start::Backslash => backslash(s, flags),
         Start::Hyphen => hyphens(s),
         Start::Exclaim => exclaim(s),
         Start::Run(q) => Token {
@@ -422,11 +431,12 @@ fn maybe_eat_close_brace(s: &[u8], kind: Kind, d: Delimiter) -> Token
 }
 
 // A backslash escapes a blank or punctuation, and is text before anything else.
-fn backslash(s: &[u8]) -> Token
+fn backslash(s: &[u8], flags: &[u8; 256]) -> Token
+    requires { ⌜ Ruled (now flags) ⌝ }
     ensures { λ r. ⌜ r ≡ begunBy Start.Backslash (now (s .entry)) ⌝ }
 {
     let b = peek_byte_n(s, 1);
-    if classes::is_blank(b) | classes::is_punctuation(b) {
+    if classes::is_blank(b, flags) | classes::is_punctuation(b, flags) {
         Token {
             kind: Kind::Escape,
             len: 1,

@@ -3,14 +3,15 @@ ghost use mathlib.Core.Path.{_≡_};
 ghost use mathlib.Core.List.{List};
 ghost use Prim.Native.Nat.{ℕ, _+_, _*_, _^_, _≤_, _<_};
 ghost use lib.ListN.{length};
+ghost use Rattle.reading.specs.Events.{enter-from, queue-numbers, largest};
 ghost use Rattle.reading.specs.Machine.{Rules};
-ghost use Rattle.reading.specs.Containers as said;
 ghost use Rattle.rooms.specs.Standing.{viewed, here, Stepped, staying};
 ghost use Rattle.links.specs.Linked.{linked};
 use labels::Destination;
 use reading::Link;
 use reading::Opener;
 use reading::Target;
+use reading::kind;
 use rooms::Margin;
 use rooms::Parser;
 use rooms::Span;
@@ -27,11 +28,11 @@ pub fn closes_link(
     labels: &mut [u8],
 ) -> Parser
     requires { ⌜ h .from ≤ h .to ⌝ }
-    requires { ⌜ m .base + h .to ≤ 1048576 ⌝ }
-    requires { ⌜ t .container < 32 ⌝ }
+    requires { ⌜ m .base + h .to ≤ largest ⌝ }
+    requires { ⌜ t .container < enter-from ⌝ }
     requires { ⌜ o .span + 2 ≤ o .event ⌝ }
     requires { ⌜ o .event < p .events ⌝ }
-    requires { ⌜ p .events * 8 ≤ length (now queue) ⌝ }
+    requires { ⌜ p .events * queue-numbers ≤ length (now queue) ⌝ }
     requires { ⌜ p .labels ≤ length (now labels) ⌝ }
     requires { ⌜ length (now labels) < 2 ^ 32 ⌝ }
     requires { ⌜ p .links .0 + 1 < 2 ^ 32 ⌝ }
@@ -48,13 +49,13 @@ pub fn closes_link(
         at: atoms::place_at(m, h.from),
         link: links,
     };
-    let shelf = labels::label_of(text, queue, p.events, d, labels, p.labels, p.fits);
-    let home = shelf.home;
-    rooms::set_kind(queue, o.span, 32 + t.container, home);
+    let label = labels::label_of(text, queue, p.events, d, labels, p.labels, p.fits);
+    let home = label.home;
+    rooms::set_kind(queue, o.span, kind::ENTER + t.container, home);
     rooms::set_kind_to(
         queue,
         event - 1,
-        64 + t.container,
+        kind::EXIT + t.container,
         home,
         atoms::place_at(m, h.to),
     );
@@ -62,8 +63,8 @@ pub fn closes_link(
     let mut out = p;
     out.events = event;
     out.last = none;
-    out.labels = shelf.labels;
-    out.fits = shelf.fits;
+    out.labels = label.labels;
+    out.fits = label.fits;
     let next = Link(links.0 + 1);
     out.links = next;
     out

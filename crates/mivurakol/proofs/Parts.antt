@@ -7,7 +7,7 @@ use native.Mathlib.Omega.{arith}
 use borrow.Author.Tests.{eq-eqb, ne-eqb}
 use lib.Dec.{leb, eqb}
 use lib.ListN.{length}
-use Rattle.reader.specs.Lookup.{withinOf, homeIn, partIn, labelOf}
+use Rattle.lookup.specs.Lookup.{withinOf, homeIn, partIn, labelOf}
 use Rattle.mivurakol.specs.declared.Part.{Part}
 use Rattle.mivurakol.specs.Values.{partOf, bytesOf}
 
@@ -44,9 +44,9 @@ unfolding partOf
 part-some found a b h = rw (ne-eqb found 0 h, partOf)
 
 -- both promises of the lookup
-pub part-told : (text labels : List ℕ) (home a b found : ℕ) (r : Part) → found ≡ homeIn (length text) (length labels) home a b → r ≡ partOf found a b
+pub part-found : (text labels : List ℕ) (home a b found : ℕ) (r : Part) → found ≡ homeIn (length text) (length labels) home a b → r ≡ partOf found a b
     → (r ≡ partOf (homeIn (length text) (length labels) home a b) a b) × (bytesOf r text labels ≡ labelOf text labels home a b)
-part-told text labels home a b found r h e =
+part-found text labels home a b found r h e =
     let same = e ∙ ap (λ (k : ℕ). partOf k a b) h in
     (same, ap (λ (p : Part). bytesOf p text labels) same ∙ part-bytes text labels home a b)
 

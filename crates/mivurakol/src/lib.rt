@@ -2,13 +2,16 @@
 ghost use mathlib.Core.Path.{_≡_};
 ghost use Prim.Native.Nat.{_+_, _/_, _≤_};
 ghost use lib.ListN.{length};
+ghost use Rattle.reading.specs.Events.{event-numbers};
 ghost use Rattle.reading.specs.Questions.{total, outcome};
 ghost use Rattle.reading.specs.Walked.{Accepted};
-ghost use Rattle.reader.specs.Lookup.{homeIn, labelOf};
-ghost use Rattle.reader.specs.Telling.{lent, told};
+ghost use Rattle.lookup.specs.Lookup.{homeIn, labelOf};
+ghost use Rattle.outcome.specs.Outcomes.{rooms-of, outcome-of};
 ghost use Rattle.mivurakol.specs.Values.{partOf, bytesOf};
 use reading::Answer;
+use reading::IN_TEXT;
 use reading::Line;
+use reading::NO_HOME;
 
 // Bytes of the text (home 1) or of the label room (home 2).
 #[repr(C)]
@@ -29,16 +32,16 @@ pub extern "C" fn mivurakol_read(
     openers: &mut [u32],
     labels: &mut [u8],
 ) -> Answer
-    ensures { λ r. ⌜ told r (now (events .exit)) (now (queue .exit)) (now (openers .exit)) (now (labels .exit)) ≡ outcome (now (text .entry))
-        (now (lines .entry)) reading (lent (now (events .entry)) (now (queue .entry)) (now (openers .entry)) (now (labels .entry))) ⌝ }
-    ensures { λ r. ⌜ (r .code ≡ 0 → Accepted (now (text .entry)) (now (lines .entry)) reading (lent (now (events .entry)) (now (queue .entry)) (now
-        (openers .entry)) (now (labels .entry))) (told r (now (events .exit)) (now (queue .exit)) (now (openers .exit)) (now (labels .exit)))) ⌝ }
-    ensures { λ r. ⌜ (total (now (lines .entry)) + 1 ≤ length (now (events .entry)) / 7 → r .code ≡ 9 → ⊥) ⌝ }
+    ensures { λ r. ⌜ outcome-of r (now (events .exit)) (now (queue .exit)) (now (openers .exit)) (now (labels .exit)) ≡ outcome (now (text .entry))
+        (now (lines .entry)) reading (rooms-of (now (events .entry)) (now (queue .entry)) (now (openers .entry)) (now (labels .entry))) ⌝ }
+    ensures { λ r. ⌜ (r .code ≡ 0 → Accepted (now (text .entry)) (now (lines .entry)) reading (rooms-of (now (events .entry)) (now (queue .entry)) (now
+        (openers .entry)) (now (labels .entry))) (outcome-of r (now (events .exit)) (now (queue .exit)) (now (openers .exit)) (now (labels .exit)))) ⌝ }
+    ensures { λ r. ⌜ (total (now (lines .entry)) + 1 ≤ length (now (events .entry)) / event-numbers → r .code ≡ 9 → ⊥) ⌝ }
 {
     records::read(text, lines, reading, events, queue, openers, labels)
 }
 
-// `reader::label`, as a place and a length. An impossible home or range gives an empty part of the text.
+// `lookup::label`, as a place and a length. An impossible home or range gives an empty part of the text.
 #[no_mangle]
 pub extern "C" fn mivurakol_label(
     text: &[u8],
@@ -52,10 +55,10 @@ pub extern "C" fn mivurakol_label(
 {
     let from = start as usize;
     let to = end as usize;
-    let found = reader::home_of(text.len(), labels.len(), home, from, to);
-    if found == 0 {
+    let found = lookup::home_of(text.len(), labels.len(), home, from, to);
+    if found == NO_HOME {
         return Part {
-            home: 1,
+            home: IN_TEXT,
             start: 0,
             len: 0,
         };

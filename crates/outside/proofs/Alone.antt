@@ -1,8 +1,7 @@
 -- A token that closes nothing: what it is alone, or a span's opener.
-use Prim.Native.Nat.{ℕ, _≤_}
+use Prim.Native.Nat.{ℕ}
 use mathlib.Core.Path.{_≡_, ap}
 use mathlib.Core.List.{List}
-use lib.ListN.{length}
 use Rattle.classes.specs.Classes.{among}
 use Rattle.lex.specs.declared.lex.Kind.{Kind}
 use Rattle.lex.specs.declared.lex.Kind.the-variants as kinds
@@ -16,21 +15,16 @@ use Rattle.reading.proofs.Ends.{seek-none}
 use Rattle.rooms.specs.declared.Parser.{Parser}
 use Rattle.rooms.specs.declared.Span.{Span}
 use Rattle.rooms.specs.Records.{opens}
-use Rattle.rooms.specs.Standing.{here, staying, Changed, Stepped}
-use Rattle.rooms.proofs.Changing.{changed-stepped}
+use Rattle.rooms.specs.Standing.{here, staying, Changed}
 
-module _ (x : Sheet) (v : View) (h : Span) (p : Parser) (q o l : List ℕ) (room : p .labels ≤ length l) (r : Parser) (q′ : List ℕ) where
-  pub alone : Changed p q o r q′ o (staying p (put v str (h .from) (h .to))) → Stepped p q o l r q′ o l (container x v (here h p) (plain str))
+module _ (x : Sheet) (v : View) (h : Span) (p : Parser) (q o : List ℕ) (r : Parser) (q′ : List ℕ) where
+  pub alone : Changed p q o r q′ o (staying p (put v str (h .from) (h .to))) → Changed p q o r q′ o (container x v (here h p) (plain str))
   unfolding tried opens-or
-  alone c =
-      let s = changed-stepped p q o r q′ o (staying p (put v str (h .from) (h .to))) c l room in
-      record { same = rw (seek-none (opens (p .openers) o)) (s .same); labels = s .labels }
+  alone c = record { same = λ l. rw (seek-none (opens (p .openers) o)) (c .same l); labels = c .labels }
 
-  pub opening : (o′ : List ℕ) → Changed p q o r q′ o′ (staying p (open-as v (here h p) sort.Span)) → Stepped p q o l r q′ o′ l (container x v (here h p) bracket)
+  pub opening : (o′ : List ℕ) → Changed p q o r q′ o′ (staying p (open-as v (here h p) sort.Span)) → Changed p q o r q′ o′ (container x v (here h p) bracket)
   unfolding tried opens-or may-open closed-by among
-  opening o′ c =
-      let s = changed-stepped p q o r q′ o′ (staying p (open-as v (here h p) sort.Span)) c l room in
-      record { same = rw (seek-none (opens (p .openers) o)) (s .same); labels = s .labels }
+  opening o′ c = record { same = λ l. rw (seek-none (opens (p .openers) o)) (c .same l); labels = c .labels }
 
 -- text
 pub text-role : (k : Kind) → k ≡ kinds.Text → role-of k ≡ roles.Other (plain str)

@@ -12,18 +12,17 @@ use Rattle.lex.specs.declared.lex.Lexed.{Lexed}
 use Rattle.lex.specs.Lexer.{nextOf, peekOf}
 use Rattle.lex.proofs.Laws.{Sound, peek-kept}
 use Rattle.scan.specs.Scans.{footnoteOf}
-use Rattle.reading.specs.declared.Marks.{Marks}
+use Rattle.reading.specs.declared.Role.the-variants as roles
 use Rattle.reading.specs.Machine.{Sheet, State, Turn}
 use Rattle.reading.specs.Tokens.{bracket, role-of, is-caret}
 use Rattle.reading.specs.Containers.{container}
-use Rattle.reading.specs.Reading.{noted, bracketed}
+use Rattle.reading.specs.Reading.{noted, bracketed, outside}
 use Rattle.reading.proofs.Places.{Taken, peeked-taken, peek-sound, peek-place}
 use Rattle.rooms.specs.declared.Parser.{Parser}
 use Rattle.rooms.specs.declared.Margin.{Margin}
 use Rattle.rooms.specs.declared.Span.{Span}
-use Rattle.rooms.specs.Standing.{viewed, here, moved, Stepped}
-use Rattle.containers.specs.Ready.{Ready, Shelving}
-use Rattle.outside.specs.Outside.{bracketing}
+use Rattle.rooms.specs.Standing.{viewed, here, moved, Changed}
+use Rattle.containers.specs.Ready.{Ready}
 
 -- another cursor at the same place
 pub ready-moved : (line : List ℕ) (m : Margin) (h : Span) (p : Parser) (q o : List ℕ) → Ready line m h p q o → (c : Cursor) → c .pos ≡ h .to → Sound line c
@@ -42,7 +41,7 @@ ready-moved line m h p q o w c pl so =
       named = w .named;
     }
 
-module _ (x : Sheet) (m : Margin) (line : List ℕ) (h : Span) (p : Parser) (q o l : List ℕ) (a : Lexed) (isa : a ≡ peekOf line (p .cursor))
+module _ (x : Sheet) (m : Margin) (line : List ℕ) (h : Span) (p : Parser) (q o : List ℕ) (a : Lexed) (isa : a ≡ peekOf line (p .cursor))
     (u : Parser) (isu : u ≡ moved p (a .cursor)) where
   pub peek-ready : Ready line m h p q o → Ready line m h u q o
   peek-ready w =
@@ -50,54 +49,52 @@ module _ (x : Sheet) (m : Margin) (line : List ℕ) (h : Span) (p : Parser) (q o
       (subst (λ (y : Lexed). Ready line m h (moved p (y .cursor)) q o) (sym isa)
       (ready-moved line m h p q o w (peekOf line (p .cursor) .cursor) (peek-place line (p .cursor) (h .to) (w .place)) (peek-sound line (p .cursor) (w .sound))))
 
-  pub peek-shelving : Shelving p l → Shelving u l
-  peek-shelving s = subst (λ (y : Parser). Shelving y l) (sym isu) record { labels = s .labels; room = s .room; links = s .links }
-
-  module _ (r : Parser) (q′ o′ l′ : List ℕ) where
-    by-token : (f : State → Turn) → ((s : State) → f s ≡ bracketed x (viewed m line) (here h p) a (a .token) s) → Stepped p q o l r q′ o′ l′ f
-        → Stepped p q o l r q′ o′ l′ (bracketing x (viewed m line) (here h p))
+  module _ (r : Parser) (q′ o′ : List ℕ) where
+    by-token : (f : State → Turn) → ((s : State) → f s ≡ bracketed x (viewed m line) (here h p) a (a .token) s) → Changed p q o r q′ o′ f
+        → Changed p q o r q′ o′ (outside x (viewed m line) (here h p) roles.Bracket)
+    unfolding outside
     by-token f e s =
-        subst (λ (y : Lexed). Stepped p q o l r q′ o′ l′ (λ z. bracketed x (viewed m line) (here h p) y (y .token) z)) isa
-        record { same = s .same ∙ e _; labels = s .labels }
+        subst (λ (y : Lexed). Changed p q o r q′ o′ (λ z. bracketed x (viewed m line) (here h p) y (y .token) z)) isa
+        record { same = λ l. s .same l ∙ e _; labels = s .labels }
 
-    from-there : (f : Cursor → State → Turn) → Stepped u q o l r q′ o′ l′ (f (u .cursor)) → Stepped p q o l r q′ o′ l′ (f (a .cursor))
+    from-there : (f : Cursor → State → Turn) → Changed u q o r q′ o′ (f (u .cursor)) → Changed p q o r q′ o′ (f (a .cursor))
     from-there f s =
-        let t = subst (λ (y : Parser). Stepped y q o l r q′ o′ l′ (f (y .cursor))) isu s in
-        record { same = t .same; labels = t .labels }
+        let t = subst (λ (y : Parser). Changed y q o r q′ o′ (f (y .cursor))) isu s in
+        record { same = λ l. t .same l; labels = t .labels }
 
-    abbrev alone : Marks → Cursor → State → Turn
-    alone k c = container x (viewed m line) (record { from = h .from; to = h .to; cursor = c }) k
+    abbrev alone : Cursor → State → Turn
+    alone c = container x (viewed m line) (record { from = h .from; to = h .to; cursor = c }) bracket
 
-    bare : (k : Marks) → k ≡ bracket → Stepped u q o l r q′ o′ l′ (container x (viewed m line) (here h u) k) → Stepped p q o l r q′ o′ l′ (alone bracket (a .cursor))
-    bare k isk s = subst (λ (y : Marks). Stepped p q o l r q′ o′ l′ (alone y (a .cursor))) isk (from-there (alone k) s)
+    bare : Changed u q o r q′ o′ (container x (viewed m line) (here h u) bracket) → Changed p q o r q′ o′ (alone (a .cursor))
+    bare c = from-there alone c
 
-    pub caret-none : a .token ≡ next.None → (k : Marks) → k ≡ bracket → Stepped u q o l r q′ o′ l′ (container x (viewed m line) (here h u) k)
-        → Stepped p q o l r q′ o′ l′ (bracketing x (viewed m line) (here h p))
+    pub caret-none : a .token ≡ next.None → Changed u q o r q′ o′ (container x (viewed m line) (here h u) bracket)
+        → Changed p q o r q′ o′ (outside x (viewed m line) (here h p) roles.Bracket)
     unfolding bracketed
-    caret-none e k isk s = by-token (alone bracket (a .cursor)) (λ z. sym (rw (e, bracketed))) (bare k isk s)
+    caret-none e c = by-token (alone (a .cursor)) (λ z. sym (rw (e, bracketed))) (bare c)
 
     module _ (t : Token) (ist : a .token ≡ next.Some t) where
-      pub caret-no : is-caret (role-of (t .kind)) ≡ false → (k : Marks) → k ≡ bracket → Stepped u q o l r q′ o′ l′ (container x (viewed m line) (here h u) k)
-          → Stepped p q o l r q′ o′ l′ (bracketing x (viewed m line) (here h p))
+      pub caret-no : is-caret (role-of (t .kind)) ≡ false → Changed u q o r q′ o′ (container x (viewed m line) (here h u) bracket)
+          → Changed p q o r q′ o′ (outside x (viewed m line) (here h p) roles.Bracket)
       unfolding bracketed
-      caret-no e k isk s = by-token (alone bracket (a .cursor)) (λ z. sym (rw (ist, e, bracketed))) (bare k isk s)
+      caret-no e c = by-token (alone (a .cursor)) (λ z. sym (rw (ist, e, bracketed))) (bare c)
 
       pub caret-yes : is-caret (role-of (t .kind)) ≡ true → (b : Lexed) → b ≡ nextOf line (a .cursor) → (w : Parser) → w ≡ moved u (b .cursor)
-          → Stepped w q o l r q′ o′ l′ (noted x (viewed m line) (record { from = h .from; to = h .to + t .len; cursor = w .cursor }) (footnoteOf (drop (h .to + t .len) line)))
-          → Stepped p q o l r q′ o′ l′ (bracketing x (viewed m line) (here h p))
+          → Changed w q o r q′ o′ (noted x (viewed m line) (record { from = h .from; to = h .to + t .len; cursor = w .cursor }) (footnoteOf (drop (h .to + t .len) line)))
+          → Changed p q o r q′ o′ (outside x (viewed m line) (here h p) roles.Bracket)
       unfolding bracketed
       caret-yes e b isb w isw s =
           by-token (both (nextOf line (a .cursor) .cursor)) (λ z. sym (rw (ist, e, bracketed)))
-          (subst (λ (y : Lexed). Stepped p q o l r q′ o′ l′ (both (y .cursor))) isb there)
+          (subst (λ (y : Lexed). Changed p q o r q′ o′ (both (y .cursor))) isb there)
         where
           both : Cursor → State → Turn
           both c = noted x (viewed m line) (record { from = h .from; to = h .to + t .len; cursor = c }) (footnoteOf (drop (h .to + t .len) line))
 
-          there : Stepped p q o l r q′ o′ l′ (both (b .cursor))
+          there : Changed p q o r q′ o′ (both (b .cursor))
           there =
-              let t₁ = subst (λ (y : Parser). Stepped y q o l r q′ o′ l′ (both (y .cursor))) isw s in
-              let t₂ = subst (λ (y : Parser). Stepped (moved y (b .cursor)) q o l r q′ o′ l′ (both (b .cursor))) isu t₁ in
-              record { same = t₂ .same; labels = t₂ .labels }
+              let t₁ = subst (λ (y : Parser). Changed y q o r q′ o′ (both (y .cursor))) isw s in
+              let t₂ = subst (λ (y : Parser). Changed (moved y (b .cursor)) q o r q′ o′ (both (b .cursor))) isu t₁ in
+              record { same = λ l. t₂ .same l; labels = t₂ .labels }
 
   -- the two tokens lie within the line
   module _ (t : Token) (ist : a .token ≡ next.Some t) (w : Ready line m h p q o) where

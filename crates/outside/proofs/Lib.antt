@@ -1,4 +1,4 @@
 pub mod Ahead
 pub mod Caret
-pub mod Told
+pub mod Roles
 pub mod Alone

@@ -13,19 +13,21 @@ use Rattle.reading.specs.declared.Refused.the-variants as refused
 use Rattle.reading.specs.Machine.{State}
 use Rattle.reading.specs.Draining.{drain}
 use Rattle.reading.specs.Reading.{sheet, read}
+use Rattle.reading.specs.Events.{event-numbers}
 use Rattle.reading.specs.Questions.{Rooms, Outcome, total, label-room, refuses, cleared, handed-out, judged, outcome}
 use Rattle.reading.specs.Walked.{Accepted}
 use Rattle.reading.proofs.Answers.{accepted, never-nine}
 use Rattle.rooms.specs.declared.Parser.{Parser}
 use Rattle.rooms.specs.Standing.{stands}
 use Rattle.inline.specs.Asks.{StandsFor}
-use Rattle.reader.specs.declared.Asked.{Asked}
-use Rattle.reader.specs.declared.Asked.the-variants as asked
-use Rattle.reader.specs.Asking.{askedOf, concluded}
+use Rattle.questions.specs.declared.Asked.{Asked}
+use Rattle.questions.specs.declared.Asked.the-variants as asked
+use Rattle.questions.specs.Asking.{askedOf, concluded}
 use Rattle.reader.specs.declared.Brace.{Brace}
-use Rattle.reader.specs.Telling.{lent, told, braceOf, codeOf}
-use Rattle.reader.proofs.Asking.{outcome-asked}
-use Rattle.reader.proofs.Ending.{judged-lent}
+use Rattle.outcome.specs.Outcomes.{rooms-of, outcome-of}
+use Rattle.reader.specs.Judging.{braceOf, codeOf}
+use Rattle.questions.proofs.Asking.{outcome-asked}
+use Rattle.reader.proofs.Ending.{judged-rooms}
 
 -- the brace in numbers
 pub brace-at : (r : Refused) (p : Place) → r ≡ refused.At p → record { met = true; at = p .0 } ≡ braceOf r
@@ -82,7 +84,7 @@ module _ (text : List ℕ) (ls : List Line) (reading : ℕ) where
   pub owed : (rooms : Rooms) (x : Outcome) → x ≡ outcome text ls reading rooms
       → (x ≡ outcome text ls reading rooms)
       × ((x .answer .code ≡ 0 → Accepted text ls reading rooms x)
-      × (total ls + 1 ≤ length (rooms .events) / 7 → x .answer .code ≡ 9 → ⊥))
+      × (total ls + 1 ≤ length (rooms .events) / event-numbers → x .answer .code ≡ 9 → ⊥))
   owed rooms x e = (
     e,
     (
@@ -93,18 +95,18 @@ module _ (text : List ℕ) (ls : List Line) (reading : ℕ) where
 
   module _ (e q o l : List ℕ) (a : Asked) (h : a ≡ askedOf text ls reading (length q) (length o)) where
     -- a refusal under 1 to 6
-    pub refused-early : (r : Answer) → a ≡ asked.Refused r → told r e q o l ≡ outcome text ls reading (lent e q o l)
+    pub refused-early : (r : Answer) → a ≡ asked.Refused r → outcome-of r e q o l ≡ outcome text ls reading (rooms-of e q o l)
     unfolding concluded
     refused-early r k =
-        sym (outcome-asked text ls reading (lent e q o l) ∙ ap (λ (z : Asked). concluded text ls reading (lent e q o l) z) (sym h ∙ k))
+        sym (outcome-asked text ls reading (rooms-of e q o l) ∙ ap (λ (z : Asked). concluded text ls reading (rooms-of e q o l) z) (sym h ∙ k))
 
     -- and what comes of a sheet that is read
     pub judged-all : (p : Parser) (q' o' l' : List ℕ) → a ≡ asked.Fed → StandsFor p q' o' l' (read (sheet text reading (label-room l)) ls)
         → length q' ≡ length q → length o' ≡ length o → length l' ≡ length l → (x : Outcome)
-        → x ≡ judged (p .refused) (p .fits) (stands p q' o' l') (lent e q' o' l') → x ≡ outcome text ls reading (lent e q o l)
+        → x ≡ judged (p .refused) (p .fits) (stands p q' o' l') (rooms-of e q' o' l') → x ≡ outcome text ls reading (rooms-of e q o l)
     unfolding concluded
     judged-all p q' o' l' k s u v w x g =
         g
-        ∙ ap (λ (z : State). judged (z .refused) (z .fits) z (lent e q' o' l')) (s .same)
-        ∙ judged-lent _ _ _ e q o l q' o' l' u v w
-        ∙ sym (outcome-asked text ls reading (lent e q o l) ∙ ap (λ (z : Asked). concluded text ls reading (lent e q o l) z) (sym h ∙ k))
+        ∙ ap (λ (z : State). judged (z .refused) (z .fits) z (rooms-of e q' o' l')) (s .same)
+        ∙ judged-rooms _ _ _ e q o l q' o' l' u v w
+        ∙ sym (outcome-asked text ls reading (rooms-of e q o l) ∙ ap (λ (z : Asked). concluded text ls reading (rooms-of e q o l) z) (sym h ∙ k))

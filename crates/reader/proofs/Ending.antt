@@ -1,15 +1,13 @@
--- What stands in the rooms at the end: cleared ones, events and labels from the front; and the label room that counts.
-use Prim.Native.Nat.{ℕ, _+_, _-_, _*_, _/_, _^_, _≤_, _<_}
+-- What stands in the rooms at the end: events and labels from the front; and the label room that counts.
+use Prim.Native.Nat.{ℕ, _-_, _*_, _/_, _^_, _≤_, _<_}
 use mathlib.Core.Path.{_≡_, refl, sym, ap, _∙_, subst}
-use mathlib.Core.List.{List, [], _∷_, _++_, append-nil}
+use mathlib.Core.List.{List, _++_}
 use mathlib.Core.Bool.{Bool, true, false}
-use native.Mathlib.Numerals.{add-one}
 use native.Mathlib.Omega.{arith}
 use borrow.Author.Tests.{leb-true, leb-false}
 use lib.Dec.{leb}
-use lib.ListN.{length, take, drop, set, replicate, length-append, length-drop, length-set, drop-of-length-le, replicate-append-replicate}
-use lib.Seq.{length-take-le, take-append-le, take-all, take-at, take-suc-set}
-use Rattle.reading.specs.declared.Answer.{Answer}
+use lib.ListN.{length, take, drop, replicate, length-append, length-drop}
+use lib.Seq.{length-take-le, take-append-le, take-at}
 use Rattle.reading.specs.declared.Event.{Event}
 use Rattle.reading.specs.declared.Line.{Line}
 use Rattle.reading.specs.declared.Refused.{Refused}
@@ -17,7 +15,8 @@ use Rattle.reading.specs.declared.Refused.the-variants as refused
 use Rattle.reading.specs.Machine.{State}
 use Rattle.reading.specs.Draining.{drain}
 use Rattle.reading.specs.Reading.{sheet, read}
-use Rattle.reading.specs.Questions.{Rooms, total, counting, label-room, zeros, filled, numbers, refuses, cleared, handed-out, judged}
+use Rattle.reading.specs.Events.{event-numbers}
+use Rattle.reading.specs.Questions.{Rooms, acceptance, total, counting, label-room, zeros, filled, numbers, refuses, cleared, handed-out, judged}
 use Rattle.reading.proofs.Theorems.{end-room, room, rising}
 use Rattle.rooms.specs.declared.Parser.{Parser}
 use Rattle.rooms.specs.Records.{events, eventAt}
@@ -28,49 +27,14 @@ use Rattle.drain.specs.declared.Drained.{Drained}
 use Rattle.drain.specs.declared.Drained.the-variants.{All, Full}
 use Rattle.drain.specs.Handing.{answered, handed}
 use Rattle.drain.proofs.Handing.{answered-count, answered-too-many, handed-all}
-use Rattle.drain.proofs.Pouring.{numbers-length}
-use Rattle.reader.specs.Asking.{Passed, refusal}
-use Rattle.reader.specs.Telling.{lent, told, kept, accepts, drainedAs, Counted, Parsed}
-
--- a room whose first i numbers are cleared
-pub record Clearing (room₀ room : List ℕ) (i : ℕ) : Type 0 where
-  pub within : i ≤ length room₀
-  pub long : length room ≡ length room₀
-  pub front : take i room ≡ replicate i 0
-
-pub clearing-first : (room : List ℕ) → Clearing room room 0
-clearing-first room = record { within = omega arith; long = refl; front = refl }
-
-module _ (room₀ room : List ℕ) (i : ℕ) (w : Clearing room₀ room i) where
-  pub clearing-next : i < length room → Clearing room₀ (set room i 0) (i + 1)
-  clearing-next h =
-      record {
-        within = omega (arith, h, w .long);
-        long = length-set room i 0 ∙ w .long;
-        front =
-            ap (λ (k : ℕ). take k (set room i 0)) (add-one i)
-            ∙ take-suc-set room i 0 h
-            ∙ ap (λ (z : List ℕ). z ++ (0 ∷ [])) (w .front)
-            ∙ replicate-append-replicate i 1 0;
-      }
-
-  pub clearing-end : length room ≤ i → room ≡ zeros room₀
-  clearing-end h =
-      let e : i ≡ length room₀ = omega (arith, h, w .within, w .long) in
-      sym (take-all i room h) ∙ w .front ∙ ap (λ (k : ℕ). replicate k 0) e
-
--- a part behind n numbers, cleared and put back
-pub kept-all : (n : ℕ) (room part : List ℕ) → n ≤ length room → part ≡ zeros (take (length room - n) (drop n room))
-    → take n room ++ (part ++ drop (length room - n) (drop n room)) ≡ kept n room
-kept-all n room part h e =
-    let d : length (drop n room) ≡ length room - n = length-drop n room in
-    let z : drop (length room - n) (drop n room) ≡ [] = drop-of-length-le (drop n room) {i = length room - n} (omega (arith, d)) in
-    let t : length (take (length room - n) (drop n room)) ≡ length room - n = length-take-le (length room - n) (drop n room) (omega (arith, d)) in
-    ap (λ (m : List ℕ). take n room ++ m) (ap (λ (m : List ℕ). part ++ m) z ∙ append-nil part ∙ e ∙ ap (λ (k : ℕ). replicate k 0) t)
+use Rattle.drain.proofs.Storing.{numbers-length}
+use Rattle.questions.specs.Asking.{Passed}
+use Rattle.outcome.specs.Outcomes.{rooms-of, outcome-of, kept, accepts}
+use Rattle.reader.specs.Judging.{drainedAs, Counted, Parsed}
 
 -- what is counted of an answer that all were handed out
 pub counted-all : (d : Drained) (count bytes : ℕ) (e l : List ℕ) → Counted d bytes e l → d ≡ All count
-    → (count * 7 ≤ length e) × (count < 2 ^ 32) × (bytes ≤ length l) × (bytes < 2 ^ 32)
+    → (count * event-numbers ≤ length e) × (count < 2 ^ 32) × (bytes ≤ length l) × (bytes < 2 ^ 32)
 unfolding Counted
 counted-all d count bytes e l h k = subst (λ (z : Drained). Counted z bytes e l) k h
 
@@ -84,78 +48,65 @@ unfolding drainedAs
 drained-full d bytes rooms k = sym (ap (λ (z : Drained). drainedAs z bytes rooms) k)
 
 module _ (e q o l : List ℕ) where
-  -- a refusal under 7 to 9
-  pub refused-all : (code place : ℕ) (r : Answer) (e' q' o' l' : List ℕ) → r ≡ refusal code place → e' ≡ zeros e → q' ≡ zeros q → o' ≡ zeros o → l' ≡ zeros l
-      → told r e' q' o' l' ≡ refuses code place (cleared (lent e q o l))
-  refused-all code place r e' q' o' l' a b c d f = rw (a, b, c, d, f)
-
-  -- an acceptance
-  pub accepted-all : (count bytes : ℕ) (e' q' o' l' : List ℕ) → e' ≡ kept (count * 7) e → q' ≡ zeros q → o' ≡ zeros o → l' ≡ kept bytes l
-      → told (record { code = 0; place = 0; events = count; labels = bytes }) e' q' o' l' ≡ accepts count bytes (lent e q o l)
-  accepted-all count bytes e' q' o' l' b c d f = rw (b, c, d, f)
-
-  abbrev answer : ℕ → ℕ → Answer
-  answer count bytes = record { code = 0; place = 0; events = count; labels = bytes }
-
   module _ (es : List Event) (e₁ : List ℕ) (given : e₁ ≡ handed es e) (ls : List ℕ) where
     -- the events fit
-    handed-fit : (count bytes : ℕ) → ls ≡ take bytes l → bytes ≤ length l → All count ≡ answered (length es) (length e / 7)
-        → (count * 7 ≤ length e₁) × (count ≡ length es) × (accepts count bytes (lent e₁ q o l) ≡ handed-out es ls (lent e q o l))
+    handed-fit : (count bytes : ℕ) → ls ≡ take bytes l → bytes ≤ length l → All count ≡ answered (length es) (length e / event-numbers)
+        → (count * event-numbers ≤ length e₁) × (count ≡ length es) × (accepts count bytes (rooms-of e₁ q o l) ≡ handed-out es ls (rooms-of e q o l))
     unfolding handed-out
     handed-fit count bytes f b a =
-        let k = answered-count (length es) (length e / 7) count (sym a) in
-        let n : length (numbers es) ≡ count * 7 = numbers-length es ∙ ap (λ (z : ℕ). z * 7) (sym (k .0)) in
+        let k = answered-count (length es) (length e / event-numbers) count (sym a) in
+        let n : length (numbers es) ≡ count * event-numbers = numbers-length es ∙ ap (λ (z : ℕ). z * event-numbers) (sym (k .0)) in
         let w : e₁ ≡ numbers es ++ drop (length (numbers es)) e = given ∙ handed-all es e (k .1) in
-        let c : count * 7 ≤ length e = omega (arith, k .0, leb-true (length es) (length e / 7) (k .1)) in
+        let c : count * event-numbers ≤ length e = omega (arith, k .0, leb-true (length es) (length e / event-numbers) (k .1)) in
         let u : length e₁ ≡ length e =
         ap (λ (z : List ℕ). length z) w
         ∙ length-append (numbers es) (drop (length (numbers es)) e)
         ∙ omega (arith, length-drop (length (numbers es)) e, n, c) in
-        let d : length e₁ - count * 7 ≡ length e - length (numbers es) = omega (arith, u, n) in
-        let front : kept (count * 7) e₁ ≡ filled (numbers es) e =
-        ap (λ (z : List ℕ). z ++ replicate (length e₁ - count * 7) 0) (ap (λ (z : List ℕ). take (count * 7) z) w ∙ take-at (numbers es) _ (count * 7) n)
+        let d : length e₁ - count * event-numbers ≡ length e - length (numbers es) = omega (arith, u, n) in
+        let front : kept (count * event-numbers) e₁ ≡ filled (numbers es) e =
+        ap (λ (z : List ℕ). z ++ replicate (length e₁ - count * event-numbers) 0) (ap (λ (z : List ℕ). take (count * event-numbers) z) w ∙ take-at (numbers es) _ (count * event-numbers) n)
         ∙ ap (λ (m : ℕ). numbers es ++ replicate m 0) d in
         let b' : length ls ≡ bytes = ap (λ (z : List ℕ). length z) f ∙ length-take-le bytes l b in
         let back : kept bytes l ≡ filled ls l =
         ap (λ (z : List ℕ). z ++ replicate (length l - bytes) 0) (sym f) ∙ ap (λ (m : ℕ). ls ++ replicate (length l - m) 0) (sym b') in (
           omega (arith, c, u),
           k .0,
-          ap (λ (z : List ℕ). told (answer count bytes) z (zeros q) (zeros o) (kept bytes l)) front
-              ∙ ap (λ (z : List ℕ). told (answer count bytes) (filled (numbers es) e) (zeros q) (zeros o) z) back
-              ∙ ap (λ (m : ℕ). told (answer m bytes) (filled (numbers es) e) (zeros q) (zeros o) (filled ls l)) (k .0)
-              ∙ ap (λ (m : ℕ). told (answer (length es) m) (filled (numbers es) e) (zeros q) (zeros o) (filled ls l)) (sym b')
+          ap (λ (z : List ℕ). outcome-of (acceptance count bytes) z (zeros q) (zeros o) (kept bytes l)) front
+              ∙ ap (λ (z : List ℕ). outcome-of (acceptance count bytes) (filled (numbers es) e) (zeros q) (zeros o) z) back
+              ∙ ap (λ (m : ℕ). outcome-of (acceptance m bytes) (filled (numbers es) e) (zeros q) (zeros o) (filled ls l)) (k .0)
+              ∙ ap (λ (m : ℕ). outcome-of (acceptance (length es) m) (filled (numbers es) e) (zeros q) (zeros o) (filled ls l)) (sym b')
               ∙ rw (k .1, handed-out),
         )
 
     -- they do not
-    handed-full : Full ≡ answered (length es) (length e / 7) → length e₁ ≡ length e
-        → refuses 9 0 (cleared (lent e₁ q o l)) ≡ handed-out es ls (lent e q o l)
+    handed-full : Full ≡ answered (length es) (length e / event-numbers) → length e₁ ≡ length e
+        → refuses 9 0 (cleared (rooms-of e₁ q o l)) ≡ handed-out es ls (rooms-of e q o l)
     unfolding handed-out
-    handed-full a u = rw (answered-too-many (length es) (length e / 7) (sym a), u, handed-out)
+    handed-full a u = rw (answered-too-many (length es) (length e / event-numbers) (sym a), u, handed-out)
 
     -- what draining answers is counted, and says what is handed out
     module _ (bytes : ℕ) (f : ls ≡ take bytes l) (b : bytes ≤ length l) where
-      pub counted-out : (d : Drained) → d ≡ answered (length es) (length e / 7) → length es < 2 ^ 32 → bytes < 2 ^ 32 → Counted d bytes e₁ l
+      pub counted-out : (d : Drained) → d ≡ answered (length es) (length e / event-numbers) → length es < 2 ^ 32 → bytes < 2 ^ 32 → Counted d bytes e₁ l
       unfolding Counted
       counted-out (All count) a few small = let h = handed-fit count bytes f b a in (h .0, omega (arith, h .1, few), b, small)
       counted-out Full a few small = tt
 
-      pub drained-out : (d : Drained) → d ≡ answered (length es) (length e / 7) → length e₁ ≡ length e
-          → drainedAs d bytes (lent e₁ q o l) ≡ handed-out es ls (lent e q o l)
+      pub drained-out : (d : Drained) → d ≡ answered (length es) (length e / event-numbers) → length e₁ ≡ length e
+          → drainedAs d bytes (rooms-of e₁ q o l) ≡ handed-out es ls (rooms-of e q o l)
       unfolding drainedAs
       drained-out (All count) a u = handed-fit count bytes f b a .2
       drained-out Full a u = handed-full a u
 
 -- the last questions look at no number of the queue, opener and label rooms
-pub judged-lent : (r : Refused) (f : Bool) (s : State) (e q o l q' o' l' : List ℕ) → length q' ≡ length q → length o' ≡ length o → length l' ≡ length l
-    → judged r f s (lent e q' o' l') ≡ judged r f s (lent e q o l)
+pub judged-rooms : (r : Refused) (f : Bool) (s : State) (e q o l q' o' l' : List ℕ) → length q' ≡ length q → length o' ≡ length o → length l' ≡ length l
+    → judged r f s (rooms-of e q' o' l') ≡ judged r f s (rooms-of e q o l)
 unfolding judged handed-out
-judged-lent (refused.At p) f s e q o l q' o' l' a b c = rw (a, b, c)
-judged-lent refused.No false s e q o l q' o' l' a b c = rw (a, b, c)
-judged-lent refused.No true s e q o l q' o' l' a b c = go (leb (length (drain (s .queue))) (length e / 7)) refl
+judged-rooms (refused.At p) f s e q o l q' o' l' a b c = rw (a, b, c)
+judged-rooms refused.No false s e q o l q' o' l' a b c = rw (a, b, c)
+judged-rooms refused.No true s e q o l q' o' l' a b c = go (leb (length (drain (s .queue))) (length e / event-numbers)) refl
   where
-    go : (t : Bool) → leb (length (drain (s .queue))) (length e / 7) ≡ t
-        → handed-out (drain (s .queue)) (s .labels) (lent e q' o' l') ≡ handed-out (drain (s .queue)) (s .labels) (lent e q o l)
+    go : (t : Bool) → leb (length (drain (s .queue))) (length e / event-numbers) ≡ t
+        → handed-out (drain (s .queue)) (s .labels) (rooms-of e q' o' l') ≡ handed-out (drain (s .queue)) (s .labels) (rooms-of e q o l)
     go true h = rw (h, handed-out) (rw (a, b, c))
     go false h = rw (h, handed-out) (rw (a, b, c))
 

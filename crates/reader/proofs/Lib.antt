@@ -1,5 +1,3 @@
-pub mod Asking
-pub mod Walking
+-- The laws of the call: the rooms at its end, and demand 3 of its outcome.
 pub mod Ending
-pub mod Looking
 pub mod Calling

@@ -1,3 +1,1 @@
-pub mod Asking
-pub mod Lookup
-pub mod Telling
+pub mod Judging

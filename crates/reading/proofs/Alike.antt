@@ -22,7 +22,7 @@ use Rattle.reading.specs.Draining.{drain}
 use Rattle.reading.specs.Machine.{rulesOf, View, Rules, Sheet, State, Turn, Here, with-openers}
 use Rattle.reading.specs.Tokens.{role-of}
 use Rattle.reading.specs.Verbatim.{ended-at}
-use Rattle.reading.specs.Labels.{Label, here, built, Shelved, shelved}
+use Rattle.reading.specs.Labels.{Label, here, built, Labelled, label-home}
 use Rattle.reading.specs.Containers.{closes-link, close-as, container}
 use Rattle.reading.specs.Reading.{by-place, here-at, on-token, unless, steps, begun, lines, start, end-of, views, read, sheet}
 use Rattle.reading.specs.Dropped.{Content, no-content, step-drops, step-content, steps-drop, steps-content, lines-drop, dropped}
@@ -47,13 +47,13 @@ chosen fit a b out true false = λ e f. (refl, cc)
 chosen fit a b out false j = λ e f. (refl, cc)
 
 -- the label of a link
-shelved-alike : (m n : ℕ) (k : Link) (labels : List ℕ) (fits : Bool) (l : Label)
-    → Alike (λ (z : Shelved). z .fits) fits (shelved m k labels fits l) (shelved n k labels fits l)
-unfolding shelved
-shelved-alike m n k labels fits (here a b) = λ e f. (e, refl)
-shelved-alike m n k labels false (built bs) = λ e f. (e, refl)
-shelved-alike m n k labels true (built bs) =
-    chosen (λ (z : Shelved). z .fits) _ _ refl (leb (length labels + length bs) m) (leb (length labels + length bs) n)
+label-home-alike : (m n : ℕ) (k : Link) (labels : List ℕ) (fits : Bool) (l : Label)
+    → Alike (λ (z : Labelled). z .fits) fits (label-home m k labels fits l) (label-home n k labels fits l)
+unfolding label-home
+label-home-alike m n k labels fits (here a b) = λ e f. (e, refl)
+label-home-alike m n k labels false (built bs) = λ e f. (e, refl)
+label-home-alike m n k labels true (built bs) =
+    chosen (λ (z : Labelled). z .fits) _ _ refl (leb (length labels + length bs) m) (leb (length labels + length bs) n)
 
 ended-fits : (b : ℕ) (w : Inside) (s : State) → ended-at b w s .fits ≡ s .fits
 unfolding ended-at
@@ -102,8 +102,8 @@ module _ (rules : Rules) (text : List ℕ) where
     by-alike s h t inside.No =
         ruled x y v s (Turned s) (λ a k. same s a (ap (λ z. z .3) k))
         (λ h o t os e f.
-        let u = shelved-alike m n (s .links) (s .labels) (s .fits) _ e f in
-        (u .0, ap (λ (l : Shelved). record { cursor = peekOf (v .bytes) (h .cursor) .cursor; state = closes-link (t .container) l v h o (with-openers os s) }) (u .1)))
+        let u = label-home-alike m n (s .links) (s .labels) (s .fits) _ e f in
+        (u .0, ap (λ (l : Labelled). record { cursor = peekOf (v .bytes) (h .cursor) .cursor; state = closes-link (t .container) l v h o (with-openers os s) }) (u .1)))
         (λ h e f. (e, refl)) (λ h e f. (e, refl)) h (role-of (t .kind))
     by-alike s h t (inside.Verbatim w) = same s _ (ap (λ z. z .2) (in-kept v h s rules t w))
 
@@ -147,7 +147,7 @@ module _ (rules : Rules) (text : List ℕ) where
     pub dropped-alike : dropped (with-room m) ls ≡ dropped (with-room n) ls
     dropped-alike = ap (λ (l : Lines). l .1) all-alike
 
--- so the events of a sheet are one list, and what it drops is told, whatever label room holds its labels
+-- so the events of a sheet are one list, and what it drops is fixed, whatever label room holds its labels
 pub one-list : (text : List ℕ) (reading m n : ℕ) (ls : List Line) → read (sheet text reading m) ls .fits ≡ true → read (sheet text reading n) ls .fits ≡ true
     → (events (sheet text reading m) ls ≡ events (sheet text reading n) ls) × (dropped (sheet text reading m) ls ≡ dropped (sheet text reading n) ls)
 one-list text reading m n ls e f = (

@@ -13,6 +13,7 @@ use Rattle.reading.specs.declared.Refused.the-variants as refused
 use Rattle.reading.specs.Machine.{Sheet, State}
 use Rattle.reading.specs.Reading.{sheet, read}
 use Rattle.reading.specs.Draining.{drain}
+use Rattle.reading.specs.Events.{event-numbers}
 use Rattle.reading.specs.Questions.{Rooms, Outcome, Fed, total, first-outside, first-early, label-room, refuses, cleared, handed-out, judged, outcome}
 use Rattle.reading.specs.Walked.{Accepted}
 use Rattle.reading.proofs.Choose.{choose}
@@ -50,13 +51,13 @@ module _ (text : List ℕ) (ls : List Line) (reading : ℕ) (rooms : Rooms) wher
   judges P early refused.No true s late = late refl
 
   -- whoever lends N + 1 event records is never refused for event room
-  pub never-nine : total ls + 1 ≤ length (rooms .events) / 7 → outcome text ls reading rooms .answer .code ≡ 9 → ⊥
+  pub never-nine : total ls + 1 ≤ length (rooms .events) / event-numbers → outcome text ls reading rooms .answer .code ≡ 9 → ⊥
   unfolding handed-out
-  never-nine lent =
+  never-nine lends =
       asks Other (λ code at l u e. omega (arith, e, u))
       (λ fed. judges Other (λ code at l u e. omega (arith, e, u)) (read x ls .refused) (read x ls .fits) (read x ls)
       (λ r e.
-      let z = rw (le-leb (length (drain (read x ls .queue))) (length (rooms .events) / 7) (omega (arith, lent, room x ls fed r)), handed-out) at e in
+      let z = rw (le-leb (length (drain (read x ls .queue))) (length (rooms .events) / event-numbers) (omega (arith, lends, room x ls fed r)), handed-out) at e in
       omega (arith, z)))
     where
       Other : Outcome → Type 0
@@ -68,12 +69,12 @@ module _ (text : List ℕ) (ls : List Line) (reading : ℕ) (rooms : Rooms) wher
   accepted =
       asks Claim (λ code at l u e. absurd (omega (arith, e, l)))
       (λ fed. judges Claim (λ code at l u e. absurd (omega (arith, e, l))) (read x ls .refused) (read x ls .fits) (read x ls)
-      (λ r. go r fed (leb (length (drain (read x ls .queue))) (length (rooms .events) / 7)) refl))
+      (λ r. go r fed (leb (length (drain (read x ls .queue))) (length (rooms .events) / event-numbers)) refl))
     where
       Claim : Outcome → Type 0
       Claim o = o .answer .code ≡ 0 → Accepted text ls reading rooms o
 
-      go : read x ls .refused ≡ refused.No → Fed text ls → (b : Bool) → leb (length (drain (read x ls .queue))) (length (rooms .events) / 7) ≡ b
+      go : read x ls .refused ≡ refused.No → Fed text ls → (b : Bool) → leb (length (drain (read x ls .queue))) (length (rooms .events) / event-numbers) ≡ b
           → Claim (handed-out (drain (read x ls .queue)) (read x ls .labels) rooms)
       go r fed true b e = record { whole = whole x ls fed r; count = rw (b, handed-out); handed = rw (b, handed-out) }
       go r fed false b e = absurd (omega (arith, rw (b, handed-out) at e))

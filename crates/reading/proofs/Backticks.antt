@@ -26,7 +26,8 @@ use Rattle.reading.specs.declared.Opener.{Opener}
 use Rattle.reading.specs.declared.Verbatim.{Verbatim}
 use Rattle.reading.specs.declared.Inside.{Inside}
 use Rattle.reading.specs.declared.Inside.the-variants as inside
-use Rattle.reading.specs.Events.{Home, event, nowhere, in-text, becomes, shorter, exit-of, enter, str, raw-format}
+use Rattle.reading.specs.declared.Home.{Home}
+use Rattle.reading.specs.Events.{event, nowhere, in-text, becomes, shorter, exit-of, enter, str, raw-format}
 use Rattle.reading.specs.Machine.{View, Rules, State, Here, amend, amend-last, put}
 use Rattle.reading.specs.Tokens.{role-of, is-format}
 use Rattle.reading.specs.Verbatim.{flagged, taken, opened-as, opens-verbatim, closes, kept, nothing, format-ahead, formatted, closed-with}
@@ -170,9 +171,9 @@ module _ (Loose : ℕ → Type 0) (text : List ℕ) (w : Verbatim) where
       (low : w .event < w .keep) (high : w .keep ≤ length q) (up : a ≤ b) where
     kept-covers : ((j : ℕ) → Of (map span-of (cut w q)) j → Loose j) → Covers Loose 0 (kept w q) a
     unfolding kept cut
-    kept-covers told =
+    kept-covers loose =
         choose₂ (λ (d l : List Event). ((j : ℕ) → Of (map span-of d) j → Loose j) → Covers Loose 0 l a) (w .run) _ _ _ _
-        (λ e f. covers-cut Loose (w .keep) 0 q a c f) (λ e f. c) told
+        (λ e f. covers-cut Loose (w .keep) 0 q a c f) (λ e f. c) loose
 
     kept-parts : Parts (walks (kept w q ++ (exit-of (getD q (w .event) nothing) a b ∷ []))) os
     unfolding kept
@@ -185,10 +186,10 @@ module _ (Loose : ℕ → Type 0) (text : List ℕ) (w : Verbatim) where
     pub exits-out : ((j : ℕ) → Of (map span-of (cut w q)) j → Loose j) → length os ≤ m → suc n ≤ m
         → (t : State) → t .queue ≡ kept w q ++ (exit-of (getD q (w .event) nothing) a b ∷ []) → t .openers ≡ os → t .last .dollars ≡ 0
         → Out Loose text b m t
-    exits-out told l k t eq eo el =
+    exits-out loose l k t eq eo el =
         record {
           covers = rw eq
-              (covers-append Loose 0 (kept w q) a (exit-of (getD q (w .event) nothing) a b ∷ []) b (kept-covers told)
+              (covers-append Loose 0 (kept w q) a (exit-of (getD q (w .event) nothing) a b ∷ []) b (kept-covers loose)
               (covers-one Loose (exit-of (getD q (w .event) nothing) a b) up));
           parts = rw (eq, eo) kept-parts;
           few = rw eq (omega (arith, length-append (kept w q) (exit-of (getD q (w .event) nothing) a b ∷ []), kept-few w q, few, k));
@@ -275,30 +276,30 @@ module _ (Loose : ℕ → Type 0) (text : List ℕ) (w : Verbatim) where
         → (skips w (peekOf (v .bytes) (h .cursor) .token) ≡ true → (i : ℕ) → v .base + h .from ≤ i → i < v .base + h .to → Loose i)
         → Fine Loose text v m (suc (h .from)) (blank-content v h w s)
     unfolding blank-content
-    blank-fine bl told =
+    blank-fine bl loose =
         choose (Fine Loose text v m (suc (h .from))) (w .seen) _ _
         (λ e. fine-at Loose text v m (suc (h .from)) (h .to) (omega (arith, k .long)) (h .cursor) _ (k .sound) (k .place) (blank-put bl))
         (λ e.
         fine-at Loose text v m (suc (h .from)) (h .to) (omega (arith, k .long)) _ _ (peek-sound (v .bytes) (h .cursor) (k .sound))
         (peek-place (v .bytes) (h .cursor) (h .to) (k .place))
         (choose (Good Loose text (v .base + h .to) (m + h .to)) (skips w (peekOf (v .bytes) (h .cursor) .token)) _ _
-        (λ y. skip-good (told y)) (λ y. blank-put bl)))
+        (λ y. skip-good (loose y)) (λ y. blank-put bl)))
 
     closed-fine : ((j : ℕ) → Of (map span-of (cut w (s .queue))) j → Loose j) → (c : Cursor) → Sound (v .bytes) c → c .pos ≡ h .to
         → (f : Ahead) → ((n : ℕ) → f ≡ ahead.Some n → h .to + 2 + n + 1 ≤ length (v .bytes))
         → Fine Loose text v m (suc (h .from)) (closed-with v h c w f s)
     unfolding closed-with GoodBy
-    closed-fine told c so p ahead.None fit =
+    closed-fine loose c so p ahead.None fit =
         fine-at Loose text v m (suc (h .from)) (h .to) (omega (arith, k .long)) (flagged false c) _ (sound-flagged (v .bytes) false c so) p
         (exits-out s (s .queue) (s .openers) (v .base + h .from) (v .base + h .to) (m + h .from) (m + h .to) (g .covers) (g .inner) (g .few) (g .low) (g .high)
-        (omega (arith, k .long)) told (omega (arith, g .opens, k .long)) (omega (arith, k .long)) _ refl refl refl)
-    closed-fine told c so p (ahead.Some n) fit =
+        (omega (arith, k .long)) loose (omega (arith, g .opens, k .long)) (omega (arith, k .long)) _ refl refl refl)
+    closed-fine loose c so p (ahead.Some n) fit =
         fine-at Loose text v m (suc (h .from)) (h .to + 2 + n + 1) (omega (arith, k .long)) _ _ (fresh-sound (v .bytes) (h .to + 2 + n + 1) false (fit n refl)) refl
         (exits-out s q (s .openers) (v .base + h .from) (v .base + (h .to + 2 + n + 1)) (m + h .from) (m + (h .to + 2 + n + 1))
         (covers-amend Loose (enter raw-format) home (w .event) 0 (s .queue) (v .base + h .from) (g .covers))
         (inner-amend w (s .queue) (s .openers) (enter raw-format) home (omega arith, omega arith) (raw-wraps home) (g .inner))
         (omega (arith, long, g .few)) (g .low) (omega (arith, long, g .high)) (omega (arith, k .long))
-        (λ j o. told j (subst (λ (l : List Event). Of (map span-of l) j) (cut-amend w (becomes (enter raw-format) home) (s .queue) (g .low)) o))
+        (λ j o. loose j (subst (λ (l : List Event). Of (map span-of l) j) (cut-amend w (becomes (enter raw-format) home) (s .queue) (g .low)) o))
         (omega (arith, g .opens, k .long)) (omega (arith, k .long)) _ refl refl refl)
       where
         home : Home
@@ -311,21 +312,21 @@ module _ (Loose : ℕ → Type 0) (text : List ℕ) (w : Verbatim) where
         long = length-amend (becomes (enter raw-format) home) (w .event) (s .queue)
 
     closes-fine : (r : Rules) → ((j : ℕ) → Of (map span-of (cut w (s .queue))) j → Loose j) → Fine Loose text v m (suc (h .from)) (closes-verbatim r v h w s)
-    closes-fine r told =
+    closes-fine r loose =
         let c = flagged (r .after (w .here)) (h .cursor) in
         let so = sound-flagged (v .bytes) (r .after (w .here)) (h .cursor) (k .sound) in
-        closed-fine told (peekOf (v .bytes) c .cursor) (peek-sound (v .bytes) c so) (peek-place (v .bytes) c (h .to) (k .place))
+        closed-fine loose (peekOf (v .bytes) c .cursor) (peek-sound (v .bytes) c so) (peek-place (v .bytes) c (h .to) (k .place))
         (format-ahead v (h .to) (peekOf (v .bytes) c .token)) (λ n e. format-within v (h .to) n (peekOf (v .bytes) c .token) e)
 
     pub in-fine : (r : Rules) (t : Token) → ((i : ℕ) → Of (removes-at v h t w s) i → Loose i) → Fine Loose text v m (suc (h .from)) (in-verbatim r v h t w s)
     unfolding in-verbatim removes-at Of
-    in-fine r t told = go (closes w h t) refl (all-blank (bytes-of v h)) refl
+    in-fine r t loose = go (closes w h t) refl (all-blank (bytes-of v h)) refl
       where
         go : (b : Bool) → closes w h t ≡ b → (c : Bool) → all-blank (bytes-of v h) ≡ c
             → Fine Loose text v m (suc (h .from)) (in-verbatim r v h t w s)
-        go true e c y = rw (e, in-verbatim) (closes-fine r (λ j o. told j (rw (e, removes-at) o)))
+        go true e c y = rw (e, in-verbatim) (closes-fine r (λ j o. loose j (rw (e, removes-at) o)))
         go false e true y =
-            rw (e, y, in-verbatim) (blank-fine y (λ z i l u. told i (rw (e, y, z, removes-at) (inl (l, u)))))
+            rw (e, y, in-verbatim) (blank-fine y (λ z i l u. loose i (rw (e, y, z, removes-at) (inl (l, u)))))
         go false e false y = rw (e, y, in-verbatim) (content-fine t)
 
     -- what is dropped is blank

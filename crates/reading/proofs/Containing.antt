@@ -25,7 +25,7 @@ use Rattle.reading.specs.declared.DelimEventKind.the-variants as makes
 use Rattle.reading.specs.Events.{event, nowhere, becomes, becomes-to, enter, exit, str}
 use Rattle.reading.specs.Machine.{View, Sheet, State, Here, amend, put, with-openers}
 use Rattle.reading.specs.Tokens.{role-of, unclosed, closing-of, link-sort}
-use Rattle.reading.specs.Labels.{Shelved}
+use Rattle.reading.specs.Labels.{Labelled}
 use Rattle.reading.specs.Containers.{Along, along, by-itself, seek, may-close, closes-pair, takes, span-with, closes-span, labelled, closes-link}
 use Rattle.reading.specs.Containers.{close-as, may-open, open-as, opens-or, tried, container}
 use Rattle.reading.specs.Walked.{Walk, neither, walk-by, walk-of}
@@ -103,7 +103,7 @@ module _ (Loose : ℕ → Type 0) (text : List ℕ) where
           e : Event
           e = event second (v .base + h .from) (v .base + h .to)
 
-      link-then : (c : ℕ) (l : Shelved) → Wraps (walk-by (enter c) (l .home)) (walk-by (exit c) (l .home))
+      link-then : (c : ℕ) (l : Labelled) → Wraps (walk-by (enter c) (l .home)) (walk-by (exit c) (l .home))
           → LinkTop (λ (w : List Walk). Parts w os) (walks (s .queue)) (o .span) (o .event)
           → Then (closes-link c l v h o (with-openers os s))
       link-then c l w t =

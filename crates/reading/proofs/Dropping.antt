@@ -1,4 +1,4 @@
--- What the rules take out of the queue, or never put there, is what the verbatim rule is told to drop: of every sheet `dropped` is `removed`.
+-- What the rules take out of the queue, or never put there, is what the verbatim rule drops by the tokens: of every sheet `dropped` is `removed`.
 use Prim.Native.Nat.{ℕ, zero, suc, _+_, _-_, _≤_}
 use mathlib.Core.Path.{_≡_, refl, sym, ap, _∙_, subst}
 use mathlib.Core.List.{List, [], _∷_, _++_, map, map-append}
@@ -37,32 +37,32 @@ use Rattle.reading.proofs.Stepping.{Held, either₂}
 use Rattle.reading.proofs.Ruling.{ruled}
 use Rattle.reading.proofs.Feeding.{Stood, Rising, Apart, view-shows, step-on, begun-held, fed-stood, start-stood}
 
--- the content that is told is what the reading notes of an open verbatim, and the blanks since the last content are its last events
-pub record Told (w : Verbatim) (s : State) (c : Content) : Type 0 where
+-- the content by the tokens is what the reading notes of an open verbatim, and the blanks since the last content are its last events
+pub record Tracks (w : Verbatim) (s : State) (c : Content) : Type 0 where
   pub seen : c .seen ≡ w .seen
   pub run : c .run ≡ w .run
   pub blanks : c .blanks ≡ map span-of (drop (w .keep) (s .queue))
 
-unfoldable pub ToldBy : Inside → State → Content → Type 0
-ToldBy inside.No s c = Unit {0}
-ToldBy (inside.Verbatim w) s c = Told w s c
+unfoldable pub TracksBy : Inside → State → Content → Type 0
+TracksBy inside.No s c = Unit {0}
+TracksBy (inside.Verbatim w) s c = Tracks w s c
 
--- a run of another length, said twice
+-- a run of another length, in both definitions
 other-run : (w : Verbatim) (t : Next) → longer-or-shorter (w .len) t ≡ another-run w t
 unfolding longer-or-shorter another-run
 other-run w next.None = refl
 other-run w (next.Some t) = refl
 
-module _ (v : View) (h : Here) (w : Verbatim) (s : State) (c : Content) (k : Told w s c) where
+module _ (v : View) (h : Here) (w : Verbatim) (s : State) (c : Content) (k : Tracks w s c) where
   abbrev behind : Next
   behind = peekOf (v .bytes) (h .cursor) .token
 
   led : leads v h (w .len) c ≡ skips w behind
   led = rw (k .seen, other-run w behind)
 
-  cut-told : trailing c ≡ map span-of (cut w (s .queue))
+  cut-tracked : trailing c ≡ map span-of (cut w (s .queue))
   unfolding trailing cut
-  cut-told = go (w .run) refl
+  cut-tracked = go (w .run) refl
     where
       go : (b : Bool) → w .run ≡ b → trailing c ≡ map span-of (cut w (s .queue))
       go true e = rw (k .run, e, trailing, cut) (k .blanks)
@@ -72,27 +72,27 @@ module _ (v : View) (h : Here) (w : Verbatim) (s : State) (c : Content) (k : Tol
   at-same : (t : Token) → drops-at v h t (w .len) c ≡ removes-at v h t w s
   unfolding drops-at removes-at
   at-same t =
-      choose₂ (λ (l m : List Line). l ≡ m) (closes w h t) _ _ _ _ (λ e. cut-told)
+      choose₂ (λ (l m : List Line). l ≡ m) (closes w h t) _ _ _ _ (λ e. cut-tracked)
       (λ e. ap (λ (b : Bool). elim (all-blank (bytes-of v h) && b) [ true ↦ token-at v h ∷ [] | false ↦ [] ]) led)
 
-  -- and the content behind it is told: nothing is to be told where it closes
+  -- and the content behind it is tracked: nothing is where it closes
   module _ (is : s .inside ≡ inside.Verbatim w) (high : w .keep ≤ length (s .queue)) (t : Token) where
     abbrev After : Turn → Content → Type 0
-    After b d = ToldBy (b .state .inside) (b .state) d
+    After b d = TracksBy (b .state .inside) (b .state) d
 
-    closed-told : (f : Cursor) (g : Ahead) (d : Content) → After (closed-with v h f w g s) d
-    unfolding closed-with ToldBy
-    closed-told f ahead.None d = tt
-    closed-told f (ahead.Some n) d = tt
+    closed-tracked : (f : Cursor) (g : Ahead) (d : Content) → After (closed-with v h f w g s) d
+    unfolding closed-with TracksBy
+    closed-tracked f ahead.None d = tt
+    closed-tracked f (ahead.Some n) d = tt
 
     -- a blank that stays, and one that is dropped
     abbrev more : Content
     more = record { seen = c .seen; run = c .run; blanks = c .blanks ++ (token-at v h ∷ []) }
 
-    put-told : ToldBy (s .inside) (put v str (h .from) (h .to) s) more
-    unfolding ToldBy
-    put-told =
-        subst (λ (i : Inside). ToldBy i (put v str (h .from) (h .to) s) more) (sym is)
+    put-tracked : TracksBy (s .inside) (put v str (h .from) (h .to) s) more
+    unfolding TracksBy
+    put-tracked =
+        subst (λ (i : Inside). TracksBy i (put v str (h .from) (h .to) s) more) (sym is)
         (record {
           seen = k .seen;
           run = k .run;
@@ -100,132 +100,132 @@ module _ (v : View) (h : Here) (w : Verbatim) (s : State) (c : Content) (k : Tol
               ∙ sym (ap (map span-of) (drop-append-le (w .keep) (s .queue) _ high) ∙ map-append span-of (drop (w .keep) (s .queue)) _);
         })
 
-    same-told : ToldBy (s .inside) s c
-    unfolding ToldBy
-    same-told = subst (λ (i : Inside). ToldBy i s c) (sym is) k
+    same-tracked : TracksBy (s .inside) s c
+    unfolding TracksBy
+    same-tracked = subst (λ (i : Inside). TracksBy i s c) (sym is) k
 
-    blank-told : After (blank-content v h w s) (elim (skips w behind) [ true ↦ c | false ↦ more ])
+    blank-tracked : After (blank-content v h w s) (elim (skips w behind) [ true ↦ c | false ↦ more ])
     unfolding blank-content
-    blank-told =
+    blank-tracked =
         choose (λ (b : Turn). After b (elim (skips w behind) [ true ↦ c | false ↦ more ])) (w .seen) _ _
         (λ e.
-        subst (λ (b : Bool). ToldBy (s .inside) (put v str (h .from) (h .to) s) (elim b [ true ↦ c | false ↦ more ]))
-        (sym (ap (λ (b : Bool). not b && another-run w behind) e)) put-told)
-        (λ e. choose₂ (λ (a : State) (d : Content). ToldBy (a .inside) a d) (skips w behind) _ _ _ _ (λ y. same-told) (λ y. put-told))
+        subst (λ (b : Bool). TracksBy (s .inside) (put v str (h .from) (h .to) s) (elim b [ true ↦ c | false ↦ more ]))
+        (sym (ap (λ (b : Bool). not b && another-run w behind) e)) put-tracked)
+        (λ e. choose₂ (λ (a : State) (d : Content). TracksBy (a .inside) a d) (skips w behind) _ _ _ _ (λ y. same-tracked) (λ y. put-tracked))
 
     -- any other token
-    content-told : After (record { cursor = h .cursor; state = content v h t w s }) (record { seen = true; run = is-run (role-of (t .kind)); blanks = [] })
-    unfolding ToldBy
-    content-told =
+    content-tracked : After (record { cursor = h .cursor; state = content v h t w s }) (record { seen = true; run = is-run (role-of (t .kind)); blanks = [] })
+    unfolding TracksBy
+    content-tracked =
         let e = event str (v .base + h .from) (v .base + h .to) in
         let l : length (s .queue ++ e ∷ []) ≤ suc (length (s .queue)) = omega (arith, length-append (s .queue) (e ∷ [])) in
         record { seen = refl; run = refl; blanks = sym (ap (map span-of) (drop-of-length-le (s .queue ++ e ∷ []) l)) }
 
-    in-told : (r : Rules) → After (in-verbatim r v h t w s) (content-with v h t (w .len) c)
+    in-tracked : (r : Rules) → After (in-verbatim r v h t w s) (content-with v h t (w .len) c)
     unfolding in-verbatim content-with
-    in-told r =
-        choose (λ (b : Turn). After b (content-with v h t (w .len) c)) (closes w h t) _ _ (λ e. closed-told _ _ _)
+    in-tracked r =
+        choose (λ (b : Turn). After b (content-with v h t (w .len) c)) (closes w h t) _ _ (λ e. closed-tracked _ _ _)
         (λ e.
         choose₂ After (all-blank (bytes-of v h)) _ _ _ _
-        (λ y. subst (λ (b : Bool). After (blank-content v h w s) (elim b [ true ↦ c | false ↦ more ])) (sym led) blank-told)
-        (λ y. content-told))
+        (λ y. subst (λ (b : Bool). After (blank-content v h w s) (elim b [ true ↦ c | false ↦ more ])) (sym led) blank-tracked)
+        (λ y. content-tracked))
 
 -- a token outside verbatim: what opens has no content
-opened-told : (v : View) (h : Here) (s : State) → ToldBy (opens-verbatim v h s .state .inside) (opens-verbatim v h s .state) no-content
-unfolding ToldBy
-opened-told v h s =
+opened-tracked : (v : View) (h : Here) (s : State) → TracksBy (opens-verbatim v h s .state .inside) (opens-verbatim v h s .state) no-content
+unfolding TracksBy
+opened-tracked v h s =
     let n = taken (s .last) (v .base + h .from) in
     let q = amend-last (shorter n) (s .queue) in
     let e = event (enter (opened-as n)) (v .base + h .from - n) (v .base + h .to) in
     let l : length (q ++ e ∷ []) ≤ suc (length (s .queue)) = omega (arith, length-append q (e ∷ []), length-amend-last (shorter n) (s .queue)) in
     record { seen = refl; run = refl; blanks = sym (ap (map span-of) (drop-of-length-le (q ++ e ∷ []) l)) }
 
--- nothing is to be told outside verbatim
-out-told : (s : State) (c : Content) → s .inside ≡ inside.No → ToldBy (s .inside) s c
-unfolding ToldBy
-out-told s c e = subst (λ (i : Inside). ToldBy i s c) (sym e) tt
+-- nothing is tracked outside verbatim
+out-tracked : (s : State) (c : Content) → s .inside ≡ inside.No → TracksBy (s .inside) s c
+unfolding TracksBy
+out-tracked s c e = subst (λ (i : Inside). TracksBy i s c) (sym e) tt
 
 module _ (Loose : ℕ → Type 0) (x : Sheet) (v : View) where
-  outside-told : (h : Here) (t : Token) (s : State) → s .inside ≡ inside.No
-      → let b = outside x v h (role-of (t .kind)) s in ToldBy (b .state .inside) (b .state) no-content
+  outside-tracked : (h : Here) (t : Token) (s : State) → s .inside ≡ inside.No
+      → let b = outside x v h (role-of (t .kind)) s in TracksBy (b .state .inside) (b .state) no-content
   unfolding close-as
-  outside-told h t s is =
-      ruled x x v s (λ a b. ToldBy (a .state .inside) (a .state) no-content) (λ a k. out-told (a .state) no-content (ap (λ z. z .1) k ∙ is))
-      (λ h o t os. out-told _ no-content is) (λ h. opened-told v h s) (λ h. out-told _ no-content is) h (role-of (t .kind))
+  outside-tracked h t s is =
+      ruled x x v s (λ a b. TracksBy (a .state .inside) (a .state) no-content) (λ a k. out-tracked (a .state) no-content (ap (λ z. z .1) k ∙ is))
+      (λ h o t os. out-tracked _ no-content is) (λ h. opened-tracked v h s) (λ h. out-tracked _ no-content is) h (role-of (t .kind))
 
   module _ (text : List ℕ) (at n : ℕ) (a : Turn) where
-    -- a token: the same is dropped, and the content behind it is told
+    -- a token: the same is dropped, and the content behind it is tracked
     module _ (h : Here) (t : Token) (c : Content) where
-      by-told : (w : Inside) → a .state .inside ≡ w → GoodBy Loose text w at n (a .state) → ToldBy w (a .state) c
+      by-tracked : (w : Inside) → a .state .inside ≡ w → GoodBy Loose text w at n (a .state) → TracksBy w (a .state) c
           → let b = by-place x v h t w (a .state) in
-          (drops-in v h t w c ≡ removes-in v h t w (a .state)) × ToldBy (b .state .inside) (b .state) (content-in v h t w c)
-      unfolding by-place GoodBy ToldBy drops-in removes-in content-in
-      by-told inside.No is g k = (refl, outside-told h t (a .state) is)
-      by-told (inside.Verbatim w) is g k = (at-same v h w (a .state) c k t, in-told v h w (a .state) c k is (g .high) t (x .rules))
+          (drops-in v h t w c ≡ removes-in v h t w (a .state)) × TracksBy (b .state .inside) (b .state) (content-in v h t w c)
+      unfolding by-place GoodBy TracksBy drops-in removes-in content-in
+      by-tracked inside.No is g k = (refl, outside-tracked h t (a .state) is)
+      by-tracked (inside.Verbatim w) is g k = (at-same v h w (a .state) c k t, in-tracked v h w (a .state) c k is (g .high) t (x .rules))
 
-    module _ (c : Content) (g : Good Loose text at n (a .state)) (k : ToldBy (a .state .inside) (a .state) c) where
-      on-told : (t : Next) (d : Cursor)
+    module _ (c : Content) (g : Good Loose text at n (a .state)) (k : TracksBy (a .state .inside) (a .state) c) where
+      on-tracked : (t : Next) (d : Cursor)
           → let b = on-token x v a t d in
-          (drops-on v a t d c ≡ removes-on v a t d) × ToldBy (b .state .inside) (b .state) (content-on v a t d c)
+          (drops-on v a t d c ≡ removes-on v a t d) × TracksBy (b .state .inside) (b .state) (content-on v a t d c)
       unfolding on-token drops-on removes-on content-on
-      on-told next.None d = (refl, k)
-      on-told (next.Some t) d = by-told (here-at (a .cursor) t d) t c (a .state .inside) refl g k
+      on-tracked next.None d = (refl, k)
+      on-tracked (next.Some t) d = by-tracked (here-at (a .cursor) t d) t c (a .state .inside) refl g k
 
-      step-told : let b = step x v a in (step-drops v a c ≡ step-removes v a) × ToldBy (b .state .inside) (b .state) (step-content v a c)
+      step-tracked : let b = step x v a in (step-drops v a c ≡ step-removes v a) × TracksBy (b .state .inside) (b .state) (step-content v a c)
       unfolding step-removes
-      step-told = on-told (nextOf (v .bytes) (a .cursor) .token) (nextOf (v .bytes) (a .cursor) .cursor)
+      step-tracked = on-tracked (nextOf (v .bytes) (a .cursor) .token) (nextOf (v .bytes) (a .cursor) .cursor)
 
   -- a turn where no brace is met
   abbrev Ready : Turn → Content → Type 0
-  Ready a c = a .state .refused ≡ refused.No → ToldBy (a .state .inside) (a .state) c
+  Ready a c = a .state .refused ≡ refused.No → TracksBy (a .state .inside) (a .state) c
 
   module _ (free : (i : ℕ) → Loose i) (text : List ℕ) (m : ℕ) (shows : Shows text v) where
-    now-told : (a : Turn) (c : Content) → Held Loose text v m 0 a → Ready a c → a .state .refused ≡ refused.No
-        → (step-drops v a c ≡ step-removes v a) × ToldBy (step x v a .state .inside) (step x v a .state) (step-content v a c)
-    now-told a c h k e = step-told text (v .base + a .cursor .pos) (m + a .cursor .pos) a c (h .good e .good) (k e)
+    now-tracked : (a : Turn) (c : Content) → Held Loose text v m 0 a → Ready a c → a .state .refused ≡ refused.No
+        → (step-drops v a c ≡ step-removes v a) × TracksBy (step x v a .state .inside) (step x v a .state) (step-content v a c)
+    now-tracked a c h k e = step-tracked text (v .base + a .cursor .pos) (m + a .cursor .pos) a c (h .good e .good) (k e)
 
     -- so many steps
-    steps-told : (n : ℕ) (a : Turn) (c : Content) → Held Loose text v m 0 a → Ready a c
+    steps-tracked : (n : ℕ) (a : Turn) (c : Content) → Held Loose text v m 0 a → Ready a c
         → (steps-drop n x v a c ≡ steps-remove n x v a) × Ready (steps n x v a) (steps-content n x v a c)
     unfolding steps steps-drop steps-remove steps-content
-    steps-told zero a c h k = (refl, k)
-    steps-told (suc n) a c h k =
+    steps-tracked zero a c h k = (refl, k)
+    steps-tracked (suc n) a c h k =
         let later : a .state .refused ≡ refused.No
         → (steps-drop n x v (step x v a) (step-content v a c) ≡ steps-remove n x v (step x v a))
         × Ready (steps n x v (step x v a)) (steps-content n x v (step x v a) (step-content v a c))
-        = λ e. steps-told n (step x v a) (step-content v a c) (step-on Loose text x v m shows free a e h) (λ z. now-told a c h k e .1) in (
+        = λ e. steps-tracked n (step x v a) (step-content v a c) (step-on Loose text x v m shows free a e h) (λ z. now-tracked a c h k e .1) in (
           either₂ (λ (l d : List Line). l ≡ d) (a .state .refused) _ _ _ _ (λ p e. refl)
               (λ e.
-              ap (λ (l : List Line). l ++ steps-drop n x v (step x v a) (step-content v a c)) (now-told a c h k e .0)
+              ap (λ (l : List Line). l ++ steps-drop n x v (step x v a) (step-content v a c)) (now-tracked a c h k e .0)
               ∙ ap (λ (l : List Line). step-removes v a ++ l) (later e .0)),
           either₂ Ready (a .state .refused) _ _ _ _ (λ p e. k) (λ e. later e .1),
         )
 
 -- a verbatim goes on in the next line
-begun-told : (w : Inside) (s t : State) (c : Content) → t .queue ≡ s .queue → ToldBy w s c → ToldBy (moved-on w) t c
-unfolding ToldBy moved-on
-begun-told inside.No s t c e k = tt
-begun-told (inside.Verbatim w) s t c e k =
+begun-tracked : (w : Inside) (s t : State) (c : Content) → t .queue ≡ s .queue → TracksBy w s c → TracksBy (moved-on w) t c
+unfolding TracksBy moved-on
+begun-tracked inside.No s t c e k = tt
+begun-tracked (inside.Verbatim w) s t c e k =
     record { seen = k .seen; run = k .run; blanks = k .blanks ∙ ap (λ (q : List Event). map span-of (drop (w .keep) q)) (sym e) }
 
 module _ (Loose : ℕ → Type 0) (free : (i : ℕ) → Loose i) (x : Sheet) where
   -- all lines
-  lines-told : (ls : List Line) (at m : ℕ) (s : State) (c : Content) → Rising (x .text) at ls → Apart Loose (x .text) x at ls → Stood Loose (x .text) x at m s
-      → (s .refused ≡ refused.No → ToldBy (s .inside) s c) → lines-drop x (views (x .text) ls) s c ≡ lines-remove x (views (x .text) ls) s
+  lines-tracked : (ls : List Line) (at m : ℕ) (s : State) (c : Content) → Rising (x .text) at ls → Apart Loose (x .text) x at ls → Stood Loose (x .text) x at m s
+      → (s .refused ≡ refused.No → TracksBy (s .inside) s c) → lines-drop x (views (x .text) ls) s c ≡ lines-remove x (views (x .text) ls) s
   unfolding Rising Apart lines-drop lines-remove
-  lines-told [] at m s c r p h k = refl
-  lines-told (l ∷ ls) at m s c r p h k =
+  lines-tracked [] at m s c r p h k = refl
+  lines-tracked (l ∷ ls) at m s c r p h k =
       let v = viewOf (x .text) l in
       let shows = view-shows (x .text) l (r .1) (r .2) in
       let a = begun x v s in
       let held = begun-held Loose (x .text) x v at m s (p .0) h in
-      let here = steps-told Loose x v free (x .text) m shows (length (v .bytes)) a c held (λ e. begun-told (s .inside) s (a .state) c refl (k e)) in
+      let here = steps-tracked Loose x v free (x .text) m shows (length (v .bytes)) a c held (λ e. begun-tracked (s .inside) s (a .state) c refl (k e)) in
       let d = steps-content (length (v .bytes)) x v a c in
       let stood = fed-stood Loose (x .text) x l at m s (r .1) (r .2) (p .0) h (λ i o. free i) in
       ap (λ (z : List Line). z ++ lines-drop x (views (x .text) ls) (line x v s) d) (here .0)
       ∙ ap (λ (z : List Line). steps-remove (length (v .bytes)) x v a ++ z)
-      (lines-told ls (l .end) (m + (l .end - l .start)) (line x v s) d (r .3) (p .1) stood (here .1))
+      (lines-tracked ls (l .end) (m + (l .end - l .start)) (line x v s) d (r .3) (p .1) stood (here .1))
 
   pub dropped-removed : (ls : List Line) → Rising (x .text) 0 ls → Apart Loose (x .text) x 0 ls → dropped x ls ≡ removed x ls
-  unfolding ToldBy
-  dropped-removed ls r p = lines-told ls 0 0 start no-content r p (start-stood Loose (x .text) x) (λ e. tt)
+  unfolding TracksBy
+  dropped-removed ls r p = lines-tracked ls 0 0 start no-content r p (start-stood Loose (x .text) x) (λ e. tt)

@@ -41,67 +41,67 @@ view-shows text l a b j h =
     getD-take (l .end - l .start) (drop (l .start) text) j 0 (omega (arith, view-long text l a b)) ∙ getD-drop (l .start) text j 0
 
 module _ (Loose : ℕ → Type 0) (text : List ℕ) (x : Sheet) where
-  abbrev Told : List Line → Type 0
-  Told d = (i : ℕ) → Of d i → Loose i
+  abbrev AllLoose : List Line → Type 0
+  AllLoose d = (i : ℕ) → Of d i → Loose i
 
-  told-left : (a b : List Line) → Told (a ++ b) → Told a
-  told-left a b t i o = t i (of-left a b i o)
+  loose-left : (a b : List Line) → AllLoose (a ++ b) → AllLoose a
+  loose-left a b t i o = t i (of-left a b i o)
 
-  told-right : (a b : List Line) → Told (a ++ b) → Told b
-  told-right a b t i o = t i (of-right a b i o)
+  loose-right : (a b : List Line) → AllLoose (a ++ b) → AllLoose b
+  loose-right a b t i o = t i (of-right a b i o)
 
   module _ (v : View) (m : ℕ) (shows : Shows text v) where
-    -- a step, and what is still to be told
-    module _ (n : ℕ) (a : Turn) (un : a .state .refused ≡ refused.No) (t : Told (step-removes v a ++ steps-remove n x v (step x v a))) where
-      now-told : Told (step-removes v a)
-      now-told = told-left (step-removes v a) (steps-remove n x v (step x v a)) t
+    -- a step, and what is still to be loose
+    module _ (n : ℕ) (a : Turn) (un : a .state .refused ≡ refused.No) (t : AllLoose (step-removes v a ++ steps-remove n x v (step x v a))) where
+      now-loose : AllLoose (step-removes v a)
+      now-loose = loose-left (step-removes v a) (steps-remove n x v (step x v a)) t
 
-      then-told : Told (steps-remove n x v (step x v a))
-      then-told = told-right (step-removes v a) (steps-remove n x v (step x v a)) t
+      then-loose : AllLoose (steps-remove n x v (step x v a))
+      then-loose = loose-right (step-removes v a) (steps-remove n x v (step x v a)) t
 
       next-held : Held Loose text v m 0 a → Held Loose text v m 0 (step x v a)
       next-held h =
           ⊎-elim (held-less Loose text x v m 1 0 (step x v a) (omega arith)) (held-less Loose text x v m (length (v .bytes)) 0 (step x v a) (omega arith))
-          (step-held Loose text x v m shows a (h .sound) 0 h un now-told)
+          (step-held Loose text x v m shows a (h .sound) 0 h un now-loose)
 
     -- a step where no byte needs a span
     pub step-on : ((i : ℕ) → Loose i) → (a : Turn) → a .state .refused ≡ refused.No → Held Loose text v m 0 a → Held Loose text v m 0 (step x v a)
     step-on f a un h = next-held 0 a un (λ i o. f i) h
 
     -- any number of steps
-    pub steps-some : (n : ℕ) (a : Turn) → Held Loose text v m 0 a → Told (steps-remove n x v a) → Held Loose text v m 0 (steps n x v a)
+    pub steps-some : (n : ℕ) (a : Turn) → Held Loose text v m 0 a → AllLoose (steps-remove n x v a) → Held Loose text v m 0 (steps n x v a)
     unfolding steps steps-remove
     steps-some zero a h t = h
     steps-some (suc n) a h t =
-        either₂ (λ (d : List Line) (b : Turn). Told d → Held Loose text v m 0 b) (a .state .refused) _ _ _ _
+        either₂ (λ (d : List Line) (b : Turn). AllLoose d → Held Loose text v m 0 b) (a .state .refused) _ _ _ _
         (λ p e t. h)
-        (λ e t. steps-some n (step x v a) (next-held n a e t h) (then-told n a e t)) t
+        (λ e t. steps-some n (step x v a) (next-held n a e t h) (then-loose n a e t)) t
 
     -- enough of them reach the line's end
-    pub steps-all : (n lo : ℕ) (a : Turn) → length (v .bytes) ≤ lo + n → Held Loose text v m lo a → Told (steps-remove n x v a)
+    pub steps-all : (n lo : ℕ) (a : Turn) → length (v .bytes) ≤ lo + n → Held Loose text v m lo a → AllLoose (steps-remove n x v a)
         → Held Loose text v m (length (v .bytes)) (steps n x v a)
     unfolding steps steps-remove
     steps-all zero lo a l h t = held-less Loose text x v m lo (length (v .bytes)) a (omega arith) h
     steps-all (suc n) lo a l h t =
-        either₂ (λ (d : List Line) (b : Turn). Told d → Held Loose text v m (length (v .bytes)) b) (a .state .refused) _ _ _ _
+        either₂ (λ (d : List Line) (b : Turn). AllLoose d → Held Loose text v m (length (v .bytes)) b) (a .state .refused) _ _ _ _
         (λ p e t. held-refused Loose text x v m lo (length (v .bytes)) a p e h)
         (λ e t.
         ⊎-elim
-        (λ (k : Held Loose text v m (suc lo) (step x v a)). steps-all n (suc lo) (step x v a) (omega arith) k (then-told n a e t))
-        (λ (k : Held Loose text v m (length (v .bytes)) (step x v a)). steps-all n (length (v .bytes)) (step x v a) (omega arith) k (then-told n a e t))
-        (step-held Loose text x v m shows a (h .sound) lo h e (now-told n a e t))) t
+        (λ (k : Held Loose text v m (suc lo) (step x v a)). steps-all n (suc lo) (step x v a) (omega arith) k (then-loose n a e t))
+        (λ (k : Held Loose text v m (length (v .bytes)) (step x v a)). steps-all n (length (v .bytes)) (step x v a) (omega arith) k (then-loose n a e t))
+        (step-held Loose text x v m shows a (h .sound) lo h e (now-loose n a e t))) t
 
-    pub steps-blank : (n : ℕ) (a : Turn) → Held Loose text v m 0 a → Told (steps-remove n x v a)
+    pub steps-blank : (n : ℕ) (a : Turn) → Held Loose text v m 0 a → AllLoose (steps-remove n x v a)
         → (i : ℕ) → Of (steps-remove n x v a) i → blank (getD text i 0) ≡ true
     unfolding steps-remove Of
     steps-blank zero a h t i o = absurd o
     steps-blank (suc n) a h t i o =
-        either (λ (d : List Line). Told d → Of d i → blank (getD text i 0) ≡ true) (a .state .refused) _ _
+        either (λ (d : List Line). AllLoose d → Of d i → blank (getD text i 0) ≡ true) (a .state .refused) _ _
         (λ p e t o. absurd o)
         (λ e t o.
         ⊎-elim
         (λ (y : Of (step-removes v a) i). step-blank Loose text x v m shows a (h .sound) 0 h e i y)
-        (λ (y : Of (steps-remove n x v (step x v a)) i). steps-blank n (step x v a) (next-held n a e t h) (then-told n a e t) i y)
+        (λ (y : Of (steps-remove n x v (step x v a)) i). steps-blank n (step x v a) (next-held n a e t h) (then-loose n a e t) i y)
         (of-parts (step-removes v a) (steps-remove n x v (step x v a)) i o)) t o
 
   -- between two lines
@@ -150,10 +150,10 @@ module _ (Loose : ℕ → Type 0) (text : List ℕ) (x : Sheet) where
         }
 
     -- a whole line
-    module _ (shows : Shows text v) (told : Told (steps-remove (length (v .bytes)) x v (begun x v s))) where
+    module _ (shows : Shows text v) (loose : AllLoose (steps-remove (length (v .bytes)) x v (begun x v s))) where
       pub line-stood : Stood (v .base + length (v .bytes)) (m + length (v .bytes)) (line x v s)
       line-stood =
-          let k = steps-all v m shows (length (v .bytes)) 0 (begun x v s) (omega arith) begun-held told in
+          let k = steps-all v m shows (length (v .bytes)) 0 (begun x v s) (omega arith) begun-held loose in
           let a = steps (length (v .bytes)) x v (begun x v s) in
           record {
             few = omega (arith, k .few, k .sound .place);
@@ -163,7 +163,7 @@ module _ (Loose : ℕ → Type 0) (text : List ℕ) (x : Sheet) where
           }
 
       pub line-blank : (i : ℕ) → Of (steps-remove (length (v .bytes)) x v (begun x v s)) i → blank (getD text i 0) ≡ true
-      line-blank i o = steps-blank v m shows (length (v .bytes)) (begun x v s) begun-held told i o
+      line-blank i o = steps-blank v m shows (length (v .bytes)) (begun x v s) begun-held loose i o
 
   -- before each line lie only loose bytes
   unfoldable pub Apart : ℕ → List Line → Type 0
@@ -171,15 +171,15 @@ module _ (Loose : ℕ → Type 0) (text : List ℕ) (x : Sheet) where
   Apart a (l ∷ ls) = Gap Loose a (l .start) × Apart (l .end) ls
 
   module _ (l : Line) (at m : ℕ) (s : State) (up : l .start ≤ l .end) (in-text : l .end ≤ length text) (g : Gap Loose at (l .start)) (h : Stood at m s)
-      (told : Told (steps-remove (length (viewOf text l .bytes)) x (viewOf text l) (begun x (viewOf text l) s))) where
+      (loose : AllLoose (steps-remove (length (viewOf text l .bytes)) x (viewOf text l) (begun x (viewOf text l) s))) where
     pub fed-stood : Stood (l .end) (m + (l .end - l .start)) (line x (viewOf text l) s)
     fed-stood =
         let n = view-long text l up in-text in
-        let k = line-stood (viewOf text l) at m s g h (view-shows text l up in-text) told in
+        let k = line-stood (viewOf text l) at m s g h (view-shows text l up in-text) loose in
         subst (λ (e : ℕ). Stood e (m + (l .end - l .start)) (line x (viewOf text l) s)) (omega (arith, n))
         (subst (λ (e : ℕ). Stood (l .start + length (viewOf text l .bytes)) (m + e) (line x (viewOf text l) s)) n k)
 
-  pub lines-stood : (ls : List Line) (at m : ℕ) (s : State) → Rising text at ls → Apart at ls → Stood at m s → Told (lines-remove x (views text ls) s)
+  pub lines-stood : (ls : List Line) (at m : ℕ) (s : State) → Rising text at ls → Apart at ls → Stood at m s → AllLoose (lines-remove x (views text ls) s)
       → Stood (end-of ls at) (m + total ls) (lines x (views text ls) s)
   unfolding Rising Apart lines lines-remove end-of total
   lines-stood [] at m s r p h t = subst (λ (n : ℕ). Stood at n s) (omega arith) h
@@ -189,9 +189,9 @@ module _ (Loose : ℕ → Type 0) (text : List ℕ) (x : Sheet) where
       let rest = lines-remove x (views text ls) (line x v s) in
       subst (λ (n : ℕ). Stood (end-of ls (l .end)) n (lines x (views text ls) (line x v s))) (omega arith)
       (lines-stood ls (l .end) (m + (l .end - l .start)) (line x v s) (r .3) (p .1)
-      (fed-stood l at m s (r .1) (r .2) (p .0) h (told-left d rest t)) (told-right d rest t))
+      (fed-stood l at m s (r .1) (r .2) (p .0) h (loose-left d rest t)) (loose-right d rest t))
 
-  pub lines-blank : (ls : List Line) (at m : ℕ) (s : State) → Rising text at ls → Apart at ls → Stood at m s → Told (lines-remove x (views text ls) s)
+  pub lines-blank : (ls : List Line) (at m : ℕ) (s : State) → Rising text at ls → Apart at ls → Stood at m s → AllLoose (lines-remove x (views text ls) s)
       → (i : ℕ) → Of (lines-remove x (views text ls) s) i → blank (getD text i 0) ≡ true
   unfolding Rising Apart lines-remove Of
   lines-blank [] at m s r p h t i o = absurd o
@@ -200,10 +200,10 @@ module _ (Loose : ℕ → Type 0) (text : List ℕ) (x : Sheet) where
       let d = steps-remove (length (v .bytes)) x v (begun x v s) in
       let rest = lines-remove x (views text ls) (line x v s) in
       ⊎-elim
-      (λ (y : Of d i). line-blank v at m s (p .0) h (view-shows text l (r .1) (r .2)) (told-left d rest t) i y)
+      (λ (y : Of d i). line-blank v at m s (p .0) h (view-shows text l (r .1) (r .2)) (loose-left d rest t) i y)
       (λ (y : Of rest i).
       lines-blank ls (l .end) (m + (l .end - l .start)) (line x v s) (r .3) (p .1)
-      (fed-stood l at m s (r .1) (r .2) (p .0) h (told-left d rest t)) (told-right d rest t) i y)
+      (fed-stood l at m s (r .1) (r .2) (p .0) h (loose-left d rest t)) (loose-right d rest t) i y)
       (of-parts d rest i o)
 
   pub start-stood : Stood 0 0 start
@@ -238,7 +238,7 @@ module _ (Loose : ℕ → Type 0) (text : List ℕ) (x : Sheet) where
       u : Verbatim
       u = record { event = w .event; len = w .len; seen = w .seen; run = false; keep = w .keep; here = w .here }
 
-  pub read-out : (ls : List Line) → Rising text 0 ls → Apart 0 ls → Told (lines-remove x (views text ls) start)
+  pub read-out : (ls : List Line) → Rising text 0 ls → Apart 0 ls → AllLoose (lines-remove x (views text ls) start)
       → (s : State) → s ≡ lines x (views text ls) start → s .refused ≡ refused.No → Out Loose text (end-of ls 0) (suc (total ls)) (ended-at (end-of ls 0) (s .inside) s)
   read-out ls r p t s is e =
       let k = lines-stood ls 0 0 start r p start-stood t in

@@ -16,7 +16,8 @@ use Rattle.reading.specs.declared.Last.{Last}
 use Rattle.reading.specs.declared.Verbatim.{Verbatim}
 use Rattle.reading.specs.declared.Inside.{Inside}
 use Rattle.reading.specs.declared.Inside.the-variants as inside
-use Rattle.reading.specs.Events.{Home, event, str}
+use Rattle.reading.specs.declared.Home.{Home}
+use Rattle.reading.specs.Events.{event, str}
 use Rattle.reading.specs.Machine.{View, State, dollar, dollarsOf, lastOf, puts, put, with-openers}
 use Rattle.reading.specs.Walked.{neither, walk-by, link-exit, Of, walk-of}
 use Rattle.reading.proofs.Removed.{span-of}

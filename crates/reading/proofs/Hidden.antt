@@ -30,7 +30,8 @@ use Rattle.reading.specs.declared.Inside.the-variants as inside
 use Rattle.reading.specs.declared.Refused.the-variants as refused
 use Rattle.reading.specs.declared.DelimEventKind.{DelimEventKind}
 use Rattle.reading.specs.declared.DelimEventKind.the-variants as makes
-use Rattle.reading.specs.Events.{Home, event, nowhere, in-text, homeOf, becomes, becomes-to, shorter, exit-of, enter, str, emdash, endash}
+use Rattle.reading.specs.declared.Home.{Home}
+use Rattle.reading.specs.Events.{event, nowhere, in-text, homeOf, becomes, becomes-to, shorter, exit-of, enter, str, emdash, endash}
 use Rattle.reading.specs.Events.{raw-format}
 use Rattle.reading.specs.Machine.{View, Rules, Sheet, State, Turn, Here, viewOf, amend, amend-last, with-openers}
 use Rattle.reading.specs.Tokens.{role-of, closing-of}
@@ -363,14 +364,14 @@ module _ (Loose : ℕ → Type 0) (text : List ℕ) (w : Verbatim) (v : View) (n
   unfolding in-verbatim removes-at Of
   in-off r t i o = go (closes w h t) refl (all-blank (bytes-of v h)) refl (skips w (peekOf (v .bytes) (h .cursor) .token)) refl
     where
-      Told : Type 0
-      Told = (i < v .base + h .to) × (Shown i (in-verbatim r v h t w s .state .queue) → ⊥)
+      Claim : Type 0
+      Claim = (i < v .base + h .to) × (Shown i (in-verbatim r v h t w s .state .queue) → ⊥)
 
       one : Of (record { start = v .base + h .from; end = v .base + h .to } ∷ []) i → (v .base + h .from ≤ i) × (i < v .base + h .to)
       one (inl y) = y
       one (inr y) = absurd y
 
-      go : (a : Bool) → closes w h t ≡ a → (b : Bool) → all-blank (bytes-of v h) ≡ b → (c : Bool) → skips w (peekOf (v .bytes) (h .cursor) .token) ≡ c → Told
+      go : (a : Bool) → closes w h t ≡ a → (b : Bool) → all-blank (bytes-of v h) ≡ b → (c : Bool) → skips w (peekOf (v .bytes) (h .cursor) .token) ≡ c → Claim
       go true e b y c z =
           let u = closed-off _ _ i (rw (e, removes-at) at o) in
           (omega (arith, u .0, k .long), λ x. u .1 (rw (e, in-verbatim) at x))

@@ -11,7 +11,8 @@ use Rattle.reading.specs.declared.Opener.{Opener}
 use Rattle.reading.specs.declared.Verbatim.{Verbatim}
 use Rattle.reading.specs.declared.DelimEventKind.{DelimEventKind}
 use Rattle.reading.specs.declared.DelimEventKind.the-variants as makes
-use Rattle.reading.specs.Events.{Home, homeOf, becomes, shorter, exit-of}
+use Rattle.reading.specs.declared.Home.{Home}
+use Rattle.reading.specs.Events.{homeOf, becomes, shorter, exit-of}
 use Rattle.reading.specs.Machine.{amend, amend-last}
 use Rattle.reading.specs.Tokens.{closed-by, closing-of}
 use Rattle.reading.specs.Containers.{seek}

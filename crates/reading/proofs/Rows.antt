@@ -13,7 +13,7 @@ use Rattle.reading.specs.Tokens.{closed-by, unclosed, closing-of, link-s
 use Rattle.reading.specs.Atoms.{row, dashes}
 use Rattle.reading.specs.Verbatim.{taken, opened-as, kept, format-ahead, closed-with, all-blank, another-run, blank-content, in-verbatim}
 use Rattle.reading.specs.Verbatim.{moved-on, flag-of, ended-at}
-use Rattle.reading.specs.Labels.{word, words, stretches, pieces, label-of, shelved}
+use Rattle.reading.specs.Labels.{word, words, stretches, pieces, label-of, label-home}
 use Rattle.reading.specs.Containers.{seek, may-close, takes, span-with, closes-span, close-as, blank-after, may-open, opens-or, tried}
 use Rattle.reading.specs.Reading.{angle, colon, noted, bracketed, outside, by-place, on-token, unless, steps, lines, end-of}
 use Rattle.reading.specs.Dropped.{longer-or-shorter, trailing, drops-at, content-with, drops-in, content-in, drops-on, content-on, steps-drop}
@@ -29,7 +29,7 @@ computed : (map found worked ≡ map expected worked)
     × (map blanks worked ≡ worked-blanks)
     × (map found others ≡ map expected others)
     × (map found sampled ≡ map expected sampled)
-unfolding worked worked-blanks others sampled bytes another-run among special blank alphanumeric punctuation inSet run lookup starts startOf braces hyphensOf begunBy escapedOf lexed texts foundBy takenOf nextBy peekBy closedAt uptoOf scans.mark marked autolinkOf symbolOf footnoteOf rawFormatOf comesOut firstFrom fewest dashesOf prev amend amend-last dollarsOf lastOf closed-by unclosed closing-of link-sort role-of is-run opens-closed-by opens-a row dashes taken opened-as kept format-ahead closed-with all-blank blank-content in-verbatim moved-on flag-of ended-at word words stretches pieces label-of shelved seek may-close takes span-with closes-span close-as blank-after may-open opens-or tried angle colon noted bracketed outside by-place on-token unless steps lines end-of longer-or-shorter trailing drops-at content-with drops-in content-in drops-on content-on steps-drop steps-content lines-drop flushed drained first-outside first-early handed-out judged outcome total numbers
+unfolding worked worked-blanks others sampled bytes another-run among special blank alphanumeric punctuation inSet run lookup starts startOf braces hyphensOf begunBy escapedOf lexed texts foundBy takenOf nextBy peekBy closedAt uptoOf scans.mark marked autolinkOf symbolOf footnoteOf rawFormatOf comesOut firstFrom fewest dashesOf prev amend amend-last dollarsOf lastOf closed-by unclosed closing-of link-sort role-of is-run opens-closed-by opens-a row dashes taken opened-as kept format-ahead closed-with all-blank blank-content in-verbatim moved-on flag-of ended-at word words stretches pieces label-of label-home seek may-close takes span-with closes-span close-as blank-after may-open opens-or tried angle colon noted bracketed outside by-place on-token unless steps lines end-of longer-or-shorter trailing drops-at content-with drops-in content-in drops-on content-on steps-drop steps-content lines-drop flushed drained first-outside first-early handed-out judged outcome total numbers
 computed = (refl, refl, refl, refl)
 
 -- the sheets marked P, by one statement over their table: answer, all four rooms, and the blanks that are dropped

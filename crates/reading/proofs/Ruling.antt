@@ -86,7 +86,7 @@ module _ (v : View) (h : Here) (s : State) where
       go by-itself = refl
       go (along inline) = refl
 
--- P is of the turns that two sheets x and y make of a state, at a token that stands as `At` says. It is to be told of what stands alone or opens, of what closes
+-- P is of the turns that two sheets x and y make of a state, at a token that stands as `At` says. It is to be shown of what stands alone or opens, of what closes
 -- an opener that was sought, of what the scans accept, of periods and hyphens, of a run that opens a verbatim, and of a bare brace
 module _ (x y : Sheet) (v : View) (s : State) (P : Turn → Turn → Type 0) (At : Here → Type 0)
     (moves : (h : Here) (j : ℕ) (c : Cursor) → h .to ≤ j → At h → At (record { from = h .from; to = j; cursor = c }))
@@ -143,7 +143,7 @@ module _ (x y : Sheet) (v : View) (s : State) (P : Turn → Turn → Type 0) (At
   by-rule h e role.Hyphens = choose₂ P (ltb (h .to - h .from) 2) _ _ _ _ (λ z. contained h e (plain str)) (λ z. hyphens h e)
   by-rule h e (role.Other m) = contained h e m
 
--- where P is of all that keeps the four sides, it is to be told of a link that closes, of a run that opens a verbatim, and of a bare brace
+-- where P is of all that keeps the four sides, it is to be shown of a link that closes, of a run that opens a verbatim, and of a bare brace
 module _ (x y : Sheet) (v : View) (s : State) (P : Turn → Turn → Type 0) (keeps : (a : Turn) → Kept s a → P a a)
     (links : (h : Here) (o : Opener) (t : Target) (os : List Opener)
     → P (close-as x v h o (makes.Link t) (with-openers os s)) (close-as y v h o (makes.Link t) (with-openers os s)))

@@ -9,7 +9,8 @@ use native.Mathlib.Omega.{arith}
 use lib.ListN.{length, take, drop, take-append-drop}
 use Rattle.reading.specs.declared.Line.{Line}
 use Rattle.reading.specs.declared.Event.{Event}
-use Rattle.reading.specs.Events.{Home, becomes, becomes-to, shorter}
+use Rattle.reading.specs.declared.Home.{Home}
+use Rattle.reading.specs.Events.{becomes, becomes-to, shorter}
 use Rattle.reading.specs.Machine.{amend, amend-last}
 use Rattle.reading.specs.Walked.{Of}
 use Rattle.reading.proofs.Removed.{span-of}

@@ -163,7 +163,7 @@ module _ (Loose : ℕ → Type 0) (text : List ℕ) (x : Sheet) (v : View) (m : 
           (λ e. dashes-fine Loose text v m now k s no g (omega (arith, ltb-false (j - i) 2 e))))
       outside-held (role.Other mk) ok = held (suc i) _ (contained j c k mk ok)
 
-  -- of a refused turn nothing is said but the bounds
+  -- of a refused turn only the bounds are claimed
   pub held-refused : (lo hi : ℕ) (a : Turn) (p : Place) → a .state .refused ≡ refused.At p → Held Loose text v m lo a → Held Loose text v m hi a
   held-refused lo hi a p e h = record { sound = h .sound; few = h .few; opens = h .opens; good = λ z. absurd (met p (sym e ∙ z)) }
 
@@ -185,8 +185,8 @@ module _ (Loose : ℕ → Type 0) (text : List ℕ) (x : Sheet) (v : View) (m : 
           → ((i : ℕ) → Of (removes-in v there t w (a .state)) i → Loose i)
           → Held Loose text v m (suc (a .cursor .pos)) (by-place x v there t w (a .state))
       unfolding by-place GoodBy removes-in
-      by-held inside.No is o told = outside-held (a .state) is (a .cursor .pos) o (there .to) (there .cursor) ok (role-of (t .kind)) (role-ok (t .kind))
-      by-held (inside.Verbatim w) is o told = held _ _ (in-fine Loose text w v shows m there ok (a .state) is o (x .rules) t told)
+      by-held inside.No is o loose = outside-held (a .state) is (a .cursor .pos) o (there .to) (there .cursor) ok (role-of (t .kind)) (role-ok (t .kind))
+      by-held (inside.Verbatim w) is o loose = held _ _ (in-fine Loose text w v shows m there ok (a .state) is o (x .rules) t loose)
 
       by-blank : (w : Inside) → a .state .inside ≡ w → GoodBy Loose text w (v .base + a .cursor .pos) (m + a .cursor .pos) (a .state)
           → (i : ℕ) → Of (removes-in v there t w (a .state)) i → blank (getD text i 0) ≡ true
@@ -203,7 +203,7 @@ module _ (Loose : ℕ → Type 0) (text : List ℕ) (x : Sheet) (v : View) (m : 
           → ((i : ℕ) → Of (removes-on v a t (nextOf (v .bytes) (a .cursor) .cursor)) i → Loose i)
           → Taken-on lo (on-token x v a t (nextOf (v .bytes) (a .cursor) .cursor))
       unfolding on-token removes-on
-      on-held un next.None e told =
+      on-held un next.None e loose =
           let f = hd .good un in
           inr record {
             sound = so;
@@ -211,13 +211,13 @@ module _ (Loose : ℕ → Type 0) (text : List ℕ) (x : Sheet) (v : View) (m : 
             opens = hd .opens;
             good = λ z. record { sound = so; far = omega (arith, next-sounded (v .bytes) (a .cursor) so .end e); good = f .good };
           }
-      on-held un (next.Some t) e told =
+      on-held un (next.Some t) e loose =
           let f = hd .good un in
-          inl (held-less (suc (a .cursor .pos)) (suc lo) _ (omega (arith, f .far)) (by-held (f .good) t e (a .state .inside) refl (f .good) told))
+          inl (held-less (suc (a .cursor .pos)) (suc lo) _ (omega (arith, f .far)) (by-held (f .good) t e (a .state .inside) refl (f .good) loose))
 
       pub step-held : a .state .refused ≡ refused.No → ((i : ℕ) → Of (step-removes v a) i → Loose i) → Taken-on lo (step x v a)
       unfolding step-removes
-      step-held un told = on-held un (nextOf (v .bytes) (a .cursor) .token) refl told
+      step-held un loose = on-held un (nextOf (v .bytes) (a .cursor) .token) refl loose
 
       pub step-blank : a .state .refused ≡ refused.No → (i : ℕ) → Of (step-removes v a) i → blank (getD text i 0) ≡ true
       unfolding step-removes removes-on Of

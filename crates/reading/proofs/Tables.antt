@@ -19,7 +19,8 @@ use Rattle.reading.specs.declared.Role.{Role}
 use Rattle.reading.specs.declared.Role.the-variants as role
 use Rattle.reading.specs.declared.DelimEventKind.{DelimEventKind}
 use Rattle.reading.specs.declared.DelimEventKind.the-variants as makes
-use Rattle.reading.specs.Events.{Home, nowhere, enter, exit}
+use Rattle.reading.specs.declared.Home.{Home}
+use Rattle.reading.specs.Events.{nowhere, enter, exit}
 use Rattle.reading.specs.Tokens.{closed-by, unclosed, closing-of, link-sort, role-of, plain, bracket}
 use Rattle.reading.specs.Walked.{walk-by, link-exit}
 use Rattle.reading.proofs.Matching.{Wraps, wraps-match, wraps-neither}

@@ -143,12 +143,12 @@ module _ (x : Sheet) where
     gaps : Apart Loose (x .text) x 0 ls
     gaps = apart Loose ls (λ i n o. absurd (n o)) 0 ls up (λ i l o. o)
 
-    told : (i : ℕ) → Of (removed x ls) i → Loose i
-    told i d o = subst (λ (l : List Line). Of l i) (sym none-other) d
+    loose : (i : ℕ) → Of (removed x ls) i → Loose i
+    loose i d o = subst (λ (l : List Line). Of l i) (sym none-other) d
 
     -- a dropped byte is a blank
     pub blanks : (i : ℕ) → Of (dropped x ls) i → blank (getD (x .text) i 0) ≡ true
-    blanks i d = lines-blank Loose (x .text) x ls 0 0 start up gaps (start-stood Loose (x .text) x) told i (subst (λ (l : List Line). Of l i) none-other d)
+    blanks i d = lines-blank Loose (x .text) x ls 0 0 start up gaps (start-stood Loose (x .text) x) loose i (subst (λ (l : List Line). Of l i) none-other d)
 
     module _ (taken : read x ls .refused ≡ refused.No) where
       abbrev before : State
@@ -158,7 +158,7 @@ module _ (x : Sheet) where
       unrefused = sym (ended-refused (end-of ls 0) (before .inside) before) ∙ taken
 
       out : Out Loose (x .text) (end-of ls 0) (suc (total ls)) (read x ls)
-      out = read-out Loose (x .text) x ls up gaps told before refl unrefused
+      out = read-out Loose (x .text) x ls up gaps loose before refl unrefused
 
       -- every exit matches the last enter still open, and none is open at the end
       pub walked : Walked (events x ls)

@@ -20,10 +20,10 @@ use Rattle.reading.specs.declared.Role.{Role}
 use Rattle.reading.specs.declared.Role.the-variants as role
 use Rattle.reading.specs.declared.DelimEventKind.{DelimEventKind}
 use Rattle.reading.specs.declared.DelimEventKind.the-variants as makes
-use Rattle.reading.specs.Events.{link, event, nowhere, becomes, becomes-to, enter, exit, str}
-use Rattle.reading.specs.Machine.{View, Sheet, State, Turn, Here, amend, prev, puts, put, no-str, with-openers, with-queue}
+use Rattle.reading.specs.Events.{event, nowhere, becomes, becomes-to, enter, exit, str}
+use Rattle.reading.specs.Machine.{View, Sheet, State, Turn, Here, amend, prev, puts, put, no-str, noting, with-openers, with-queue, with-link}
 use Rattle.reading.specs.Tokens.{role-of, closed-by, two-way, may-be-empty, is-single, unclosed, closing-of, link-sort}
-use Rattle.reading.specs.Labels.{Shelved, label-of, shelved}
+use Rattle.reading.specs.Labels.{Labelled, label-of, label-home}
 use Rattle.reading.specs.Verbatim.{nothing}
 
 -- the newest opener that a mark closes, with the older ones below it
@@ -75,31 +75,21 @@ closes-span v h image o c next.None s = span-with v h image o c 0 by-itself s
 closes-span v h image o c (next.Some t) s = span-with v h image o c (t .len) (takes (role-of (t .kind))) s
 
 -- the label of a link whose destination's opener is o
-abbrev pub labelled : Sheet → View → Here → Bool → Opener → State → Shelved
+abbrev pub labelled : Sheet → View → Here → Bool → Opener → State → Labelled
 labelled x v h inline o s =
-    shelved (x .room) (s .links) (s .labels) (s .fits)
+    label-home (x .room) (s .links) (s .labels) (s .fits)
     (label-of (x .text) inline (v .base) (v .base + h .from) (getD (s .queue) (o .event) nothing)
     (drop (suc (o .span)) (take (o .event - 1) (s .queue)))
     (drop (suc (o .event)) (s .queue)))
 
 -- a link: its `[` becomes the enter; its `]` the exit, whose span goes to behind the destination; the destination's events go
-abbrev pub link-queue : ℕ → Shelved → View → Here → Opener → List Event → List Event
+abbrev pub link-queue : ℕ → Labelled → View → Here → Opener → List Event → List Event
 link-queue k l v h o q =
     take (o .event)
     (amend (becomes-to (exit k) (l .home) (v .base + h .to)) (o .event - 1) (amend (becomes (enter k) (l .home)) (o .span) q))
 
-abbrev pub closes-link : ℕ → Shelved → View → Here → Opener → State → State
-closes-link k l v h o s =
-    record {
-      queue = link-queue k l v h o (s .queue);
-      openers = s .openers;
-      inside = s .inside;
-      last = no-str;
-      labels = l .labels;
-      fits = l .fits;
-      links = link (suc (s .links .0));
-      refused = s .refused;
-    }
+abbrev pub closes-link : ℕ → Labelled → View → Here → Opener → State → State
+closes-link k l v h o s = with-link (l .labels) (l .fits) (noting (link-queue k l v h o (s .queue)) no-str s)
 
 -- closing, where the newer openers are discarded already. After it the next token is peeked at, so that a Text there is not joined
 unfoldable pub close-as : Sheet → View → Here → Opener → DelimEventKind → State → Turn

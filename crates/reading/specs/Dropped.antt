@@ -1,4 +1,4 @@
--- Dropped blanks (document 01, "Verbatim" and "Walked events"): which blanks the verbatim rule drops, told from the tokens alone. Nothing is asked of
+-- Dropped blanks (document 01, "Verbatim" and "Walked events"): which blanks the verbatim rule drops, by the tokens alone. Nothing is asked of
 -- the queue, nor of what the reading notes of an open verbatim but the length of its run.
 use Prim.Native.Nat.{ℕ, zero, suc, _+_, _-_}
 use mathlib.Core.List.{List, [], _∷_, _++_}

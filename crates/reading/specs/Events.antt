@@ -1,8 +1,9 @@
--- Events (document 01, "What it reads and what it hands out"): their kinds, homes and link numbers.
+-- Events (document 01, "What it reads and what it hands out"): their kinds, homes and link numbers, the numbers of a record, and the limits.
 use Prim.Native.Nat.{ℕ, _+_, _-_}
 use Rattle.reading.specs.declared.Place.{Place}
 use Rattle.reading.specs.declared.Link.{Link}
 use Rattle.reading.specs.declared.Event.{Event}
+use Rattle.reading.specs.declared.Home.{Home}
 
 -- a byte place and a link number are two types
 abbrev pub place : ℕ → Place
@@ -10,6 +11,28 @@ place n = record { 0 = n }
 
 abbrev pub link : ℕ → Link
 link n = record { 0 = n }
+
+-- how many 32-bit numbers a record has: an event that is handed out, one of the queue, an opener
+abbrev pub event-numbers : ℕ
+event-numbers = 7
+
+abbrev pub queue-numbers : ℕ
+queue-numbers = 8
+
+abbrev pub opener-numbers : ℕ
+opener-numbers = 4
+
+-- the largest text in bytes, and the longest line list in records
+abbrev pub largest : ℕ
+largest = 1048576
+
+-- of a longer label room only so many bytes count
+abbrev pub label-limit : ℕ
+label-limit = 4294967295
+
+-- the longest run of backticks that opens
+abbrev pub longest-run : ℕ
+longest-run = 255
 
 -- the kinds that neither open nor close
 abbrev pub str : ℕ
@@ -103,25 +126,35 @@ inline-image = 15
 abbrev pub autolink : ℕ
 autolink = 16
 
+-- the kinds from here on are enters, and from there on exits
+abbrev pub enter-from : ℕ
+enter-from = 32
+
+abbrev pub exit-from : ℕ
+exit-from = 64
+
 abbrev pub enter : ℕ → ℕ
-enter k = 32 + k
+enter k = enter-from + k
 
 abbrev pub exit : ℕ → ℕ
-exit k = 64 + k
+exit k = exit-from + k
 
--- a home: 0 none, 1 the text, 2 the label room; from where to where in it; and the link number
-pub record Home : Type 0 where
-  pub home : ℕ
-  pub start : Place
-  pub end : Place
-  pub link : Link
+-- the homes
+abbrev pub home-none : ℕ
+home-none = 0
+
+abbrev pub home-text : ℕ
+home-text = 1
+
+abbrev pub home-labels : ℕ
+home-labels = 2
 
 -- fields with no meaning are 0
 abbrev pub nowhere : Home
-nowhere = record { home = 0; start = place 0; end = place 0; link = link 0 }
+nowhere = record { home = home-none; start = place 0; end = place 0; link = link 0 }
 
 abbrev pub in-text : ℕ → ℕ → Home
-in-text a b = record { home = 1; start = place a; end = place b; link = link 0 }
+in-text a b = record { home = home-text; start = place a; end = place b; link = link 0 }
 
 abbrev pub homeOf : Event → Home
 homeOf e = record { home = e .home; start = e .«home_start»; end = e .«home_end»; link = e .link }
@@ -156,4 +189,4 @@ shorter n e = homed (e .kind) (homeOf e) (e .start .0) (e .end .0 - n)
 
 -- the exit for an enter: the same container and home
 abbrev pub exit-of : Event → ℕ → ℕ → Event
-exit-of e a b = homed (e .kind + 32) (homeOf e) a b
+exit-of e a b = homed (e .kind + (exit-from - enter-from)) (homeOf e) a b

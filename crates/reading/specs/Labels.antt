@@ -7,7 +7,8 @@ use lib.Dec.{leb, ltb, eqb}
 use lib.ListN.{length, take, drop}
 use Rattle.reading.specs.declared.Link.{Link}
 use Rattle.reading.specs.declared.Event.{Event}
-use Rattle.reading.specs.Events.{Home, place, escape, softbreak, hardbreak}
+use Rattle.reading.specs.declared.Home.{Home}
+use Rattle.reading.specs.Events.{place, escape, softbreak, hardbreak, enter-from, home-none, home-text, home-labels}
 
 -- the bytes of the text from a place to another
 abbrev pub part : List ℕ → ℕ → ℕ → List ℕ
@@ -16,7 +17,7 @@ part text a b = take (b - a) (drop a text)
 -- what an event of the link's text gives: enters, exits and Escape nothing, a break one space, Str and the other atoms their bytes
 unfoldable pub word : List ℕ → Event → List ℕ
 word text e =
-    elim (leb 32 (e .kind) || eqb (e .kind) escape) [
+    elim (leb enter-from (e .kind) || eqb (e .kind) escape) [
       | true ↦ []
       | false ↦ elim (eqb (e .kind) softbreak || eqb (e .kind) hardbreak) [
         | true ↦ code " " ∷ []
@@ -68,21 +69,21 @@ label-of text inline base at d texts dest =
     ]
 
 -- the home of a label, and the label room behind it
-pub record Shelved : Type 0 where
+pub record Labelled : Type 0 where
   pub home : Home
   pub labels : List ℕ
   pub fits : Bool
 
 -- link number n gets its home. A label that does not fit is not written, nor any later one; the reading goes on
-unfoldable pub shelved : ℕ → Link → List ℕ → Bool → Label → Shelved
-shelved room n labels fits (here a b) =
-    record { home = record { home = 1; start = place a; end = place b; link = n }; labels = labels; fits = fits }
-shelved room n labels fits (built bs) =
+unfoldable pub label-home : ℕ → Link → List ℕ → Bool → Label → Labelled
+label-home room n labels fits (here a b) =
+    record { home = record { home = home-text; start = place a; end = place b; link = n }; labels = labels; fits = fits }
+label-home room n labels fits (built bs) =
     elim (fits && leb (length labels + length bs) room) [
       | true ↦ record {
-        home = record { home = 2; start = place (length labels); end = place (length labels + length bs); link = n };
+        home = record { home = home-labels; start = place (length labels); end = place (length labels + length bs); link = n };
         labels = labels ++ bs;
         fits = true;
       }
-      | false ↦ record { home = record { home = 0; start = place 0; end = place 0; link = n }; labels = labels; fits = false }
+      | false ↦ record { home = record { home = home-none; start = place 0; end = place 0; link = n }; labels = labels; fits = false }
     ]

@@ -1,4 +1,5 @@
 pub mod Events
+pub mod Closers
 pub mod Machine
 pub mod Tokens
 pub mod Atoms

@@ -13,7 +13,7 @@ use Rattle.reading.specs.declared.Opener.{Opener}
 use Rattle.reading.specs.declared.Inside.{Inside}
 use Rattle.reading.specs.declared.Last.{Last}
 use Rattle.reading.specs.declared.Refused.{Refused}
-use Rattle.reading.specs.Events.{place, event, str}
+use Rattle.reading.specs.Events.{place, link, event, str}
 
 -- a line as the reading sees it: where it starts, the byte before it (0 at the text's start), and its bytes
 pub record View : Type 0 where
@@ -107,11 +107,13 @@ unfoldable pub lastOf : View → ℕ → ℕ → ℕ → Last
 lastOf v kind i j =
     elim (eqb kind str) [ true ↦ record { str = true; end = place (v .base + j); dollars = dollarsOf v i j } | false ↦ no-str ]
 
--- events behind the queue, and what is noted of the last
-abbrev pub puts : List Event → Last → State → State
-puts es l s =
+-- The state with one part changed. Here, and for `start` and `refuse` of `Reading`, all of its parts are named; elsewhere it is passed on.
+
+-- another queue, and what is noted of its last event
+abbrev pub noting : List Event → Last → State → State
+noting q l s =
     record {
-      queue = s .queue ++ es;
+      queue = q;
       openers = s .openers;
       inside = s .inside;
       last = l;
@@ -120,6 +122,13 @@ puts es l s =
       links = s .links;
       refused = s .refused;
     }
+
+abbrev pub with-queue : List Event → State → State
+with-queue q s = noting q (s .last) s
+
+-- events behind the queue, and what is noted of the last
+abbrev pub puts : List Event → Last → State → State
+puts es l s = noting (s .queue ++ es) l s
 
 -- an event without home, from the i-th byte of the line to before the j-th
 abbrev pub put : View → ℕ → ℕ → ℕ → State → State
@@ -138,19 +147,6 @@ with-openers os s =
       refused = s .refused;
     }
 
-abbrev pub with-queue : List Event → State → State
-with-queue q s =
-    record {
-      queue = q;
-      openers = s .openers;
-      inside = s .inside;
-      last = s .last;
-      labels = s .labels;
-      fits = s .fits;
-      links = s .links;
-      refused = s .refused;
-    }
-
 abbrev pub with-inside : Inside → State → State
 with-inside w s =
     record {
@@ -161,5 +157,19 @@ with-inside w s =
       labels = s .labels;
       fits = s .fits;
       links = s .links;
+      refused = s .refused;
+    }
+
+-- one more link has closed: the label bytes behind it, and whether all of them fitted
+abbrev pub with-link : List ℕ → Bool → State → State
+with-link bs f s =
+    record {
+      queue = s .queue;
+      openers = s .openers;
+      inside = s .inside;
+      last = s .last;
+      labels = bs;
+      fits = f;
+      links = link (suc (s .links .0));
       refused = s .refused;
     }

@@ -10,6 +10,7 @@ use Rattle.reading.specs.declared.Event.{Event}
 use Rattle.reading.specs.declared.Refused.{Refused}
 use Rattle.reading.specs.declared.Refused.the-variants as refused
 use Rattle.reading.specs.declared.Answer.{Answer}
+use Rattle.reading.specs.Events.{event-numbers, queue-numbers, opener-numbers, largest, label-limit}
 use Rattle.reading.specs.Machine.{State}
 use Rattle.reading.specs.Reading.{sheet, read}
 use Rattle.reading.specs.Draining.{drain}
@@ -45,19 +46,23 @@ pub record Outcome : Type 0 where
   pub answer : Answer
   pub rooms : Rooms
 
-abbrev largest : ℕ
-largest = 1048576
-
 -- of a label room of more than 4,294,967,295 bytes only that many count
 abbrev pub counting : ℕ → ℕ
-counting n = elim (leb n 4294967295) [ true ↦ n | false ↦ 4294967295 ]
+counting n = elim (leb n label-limit) [ true ↦ n | false ↦ label-limit ]
 
 abbrev pub label-room : List ℕ → ℕ
 label-room room = counting (length room)
 
+-- the answers: nothing is handed out; or so many events and label bytes are
+abbrev pub refusal : ℕ → ℕ → Answer
+refusal code at = record { code = code; place = at; events = 0; labels = 0 }
+
+abbrev pub acceptance : ℕ → ℕ → Answer
+acceptance events labels = record { code = 0; place = 0; events = events; labels = labels }
+
 -- a refusal, with the rooms that it leaves
 abbrev pub refuses : ℕ → ℕ → Rooms → Outcome
-refuses code at rooms = record { answer = record { code = code; place = at; events = 0; labels = 0 }; rooms = rooms }
+refuses code at rooms = record { answer = refusal code at; rooms = rooms }
 
 abbrev pub zeros : List ℕ → List ℕ
 zeros room = replicate (length room) 0
@@ -70,26 +75,23 @@ abbrev pub cleared : Rooms → Rooms
 cleared rooms =
     record { events = zeros (rooms .events); queue = zeros (rooms .queue); openers = zeros (rooms .openers); labels = zeros (rooms .labels) }
 
--- the seven numbers of each event
+-- the numbers of an event
+abbrev pub record-of : Event → List ℕ
+record-of e =
+    e .kind ∷ e .start .0 ∷ e .end .0 ∷ e .home ∷ e .«home_start» .0 ∷ e .«home_end» .0 ∷ e .link .0 ∷ []
+
+-- and of each event
 unfoldable pub numbers : List Event → List ℕ
 numbers [] = []
-numbers (e ∷ es) =
-    e .kind
-    ∷ e .start .0
-    ∷ e .end .0
-    ∷ e .home
-    ∷ e .«home_start» .0
-    ∷ e .«home_end» .0
-    ∷ e .link .0
-    ∷ numbers es
+numbers (e ∷ es) = record-of e ++ numbers es
 
 -- 9: does the event room hold all the events? The last question
 unfoldable pub handed-out : List Event → List ℕ → Rooms → Outcome
 handed-out es labels rooms =
-    elim (leb (length es) (length (rooms .events) / 7)) [
+    elim (leb (length es) (length (rooms .events) / event-numbers)) [
       | false ↦ refuses 9 0 (cleared rooms)
       | true ↦ record {
-        answer = record { code = 0; place = 0; events = length es; labels = length labels };
+        answer = acceptance (length es) (length labels);
         rooms = record {
           events = filled (numbers es) (rooms .events);
           queue = zeros (rooms .queue);
@@ -125,11 +127,11 @@ outcome text ls reading rooms =
                         | true ↦ refuses 4 (first-early 0 ls) rooms
                         | false ↦
                             -- 5: has the queue room at least 2N + 1 records?
-                            elim (leb (2 * total ls + 1) (length (rooms .queue) / 8)) [
+                            elim (leb (2 * total ls + 1) (length (rooms .queue) / queue-numbers)) [
                               | false ↦ refuses 5 0 rooms
                               | true ↦
                                   -- 6: has the opener room at least N records?
-                                  elim (leb (total ls) (length (rooms .openers) / 4)) [
+                                  elim (leb (total ls) (length (rooms .openers) / opener-numbers)) [
                                     | false ↦ refuses 6 0 rooms
                                     | true ↦
                                         let s = read (sheet text reading (label-room (rooms .labels))) ls in

@@ -22,7 +22,7 @@ use Rattle.reading.specs.declared.Inside.{Inside}
 use Rattle.reading.specs.declared.Inside.the-variants as inside
 use Rattle.reading.specs.declared.Refused.{Refused}
 use Rattle.reading.specs.declared.Refused.the-variants as refused
-use Rattle.reading.specs.Events.{place, link, str, symbol, footnote}
+use Rattle.reading.specs.Events.{place, link, longest-run, str, symbol, footnote}
 use Rattle.reading.specs.Machine.{View, Sheet, State, Turn, Here, viewOf, rulesOf, puts, no-str, with-inside}
 use Rattle.reading.specs.Tokens.{role-of, is-caret, plain, bracket}
 use Rattle.reading.specs.Atoms.{dashes, dots, autolinked, named}
@@ -71,7 +71,7 @@ bracketed x v h p (next.Some t) s =
 -- a token outside verbatim. A run of more than 255 backticks is Str; a bare opening brace refuses the sheet; each three periods are an ellipsis;
 -- two and more hyphens are dashes
 unfoldable pub outside : Sheet → View → Here → Role → State → Turn
-outside x v h role.Backticks s = elim (leb (h .to - h .from) 255) [ true ↦ opens-verbatim v h s | false ↦ container x v h (plain str) s ]
+outside x v h role.Backticks s = elim (leb (h .to - h .from) longest-run) [ true ↦ opens-verbatim v h s | false ↦ container x v h (plain str) s ]
 outside x v h role.Brace s = record { cursor = h .cursor; state = refuse (v .base + h .from) s }
 outside x v h role.Lt s = angle x v h (autolinkOf (drop (h .to) (v .bytes))) s
 outside x v h role.Colon s = colon x v h (symbolOf (drop (h .to) (v .bytes))) s

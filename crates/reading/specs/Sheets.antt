@@ -6,7 +6,8 @@ use lib.ListN.{length, replicate}
 use Rattle.classes.specs.Classes.{bytes}
 use Rattle.reading.specs.declared.Line.{Line}
 use Rattle.reading.specs.declared.Event.{Event}
-use Rattle.reading.specs.Events.{Home, place, link}
+use Rattle.reading.specs.declared.Home.{Home}
+use Rattle.reading.specs.Events.{place, link, event-numbers, queue-numbers, opener-numbers}
 use Rattle.reading.specs.Reading.{sheet}
 use Rattle.reading.specs.Dropped.{dropped}
 use Rattle.reading.specs.Questions.{Rooms, Outcome, total, numbers, filled, zeros, outcome}
@@ -25,9 +26,9 @@ pub record Row : Type 0 where
 abbrev pub rooms : Row → Rooms
 rooms r =
     record {
-      events = replicate (7 * (total (r .lines) + 1)) 9;
-      queue = replicate (8 * (2 * total (r .lines) + 1)) 9;
-      openers = replicate (4 * total (r .lines)) 9;
+      events = replicate (event-numbers * (total (r .lines) + 1)) 9;
+      queue = replicate (queue-numbers * (2 * total (r .lines) + 1)) 9;
+      openers = replicate (opener-numbers * total (r .lines)) 9;
       labels = replicate 16 9;
     }
 

@@ -3,12 +3,12 @@
 use Prim.Native.Nat.{ℕ}
 use mathlib.Core.List.{[], _∷_}
 use mathlib.Core.Bool.{Bool, true, false}
-use lib.Dec.{leb, eqb}
+use lib.Dec.{eqb}
 use Rattle.classes.specs.Classes.{among}
 use Rattle.lex.specs.declared.lex.Kind.{Kind}
 use Rattle.lex.specs.declared.lex.Kind.the-variants.{Text, Newline, Nbsp, Hardbreak, Escape, Open, Close, Sym, Seq}
-use Rattle.lex.specs.declared.lex.Delimiter.the-variants.{Brace, BraceAsterisk, BraceCaret, BraceEqual, BraceHyphen, BracePlus}
-use Rattle.lex.specs.declared.lex.Delimiter.the-variants.{BraceTilde, BraceUnderscore, Bracket, BraceQuote1, BraceQuote2, Paren}
+use Rattle.lex.specs.declared.lex.Delimiter.the-variants.{Brace, BraceAsterisk, BraceCaret, BraceEqual, BraceHyphen, BracePlus, BraceTilde}
+use Rattle.lex.specs.declared.lex.Delimiter.the-variants.{BraceUnderscore, Bracket, BraceQuote1, BraceQuote2, Paren}
 use Rattle.lex.specs.declared.lex.Symbol.the-variants.{Asterisk, Caret, ExclaimBracket, Lt, Pipe, Quote1, Quote2, Tilde, Underscore, Colon}
 use Rattle.lex.specs.declared.lex.Sequence.the-variants.{Backtick, Hyphen, Period}
 use Rattle.reading.specs.declared.Sort.{Sort}
@@ -21,46 +21,47 @@ use Rattle.reading.specs.declared.Role.the-variants as role
 use Rattle.reading.specs.declared.DelimEventKind.{DelimEventKind}
 use Rattle.reading.specs.declared.DelimEventKind.the-variants as makes
 use Rattle.reading.specs.Events.{str, softbreak, hardbreak, escape, nbsp, left-single, right-single, left-double, right-double, enter, exit}
-use Rattle.reading.specs.Events.{subscript, superscript, insert, delete, emphasis, strong, mark}
-use Rattle.reading.specs.Events.{reference-link, reference-image, inline-link, inline-image}
+use Rattle.reading.specs.Events.{subscript, superscript, insert, delete, emphasis, strong, mark, reference-link, reference-image, inline-link}
+use Rattle.reading.specs.Events.{inline-image}
+use Rattle.reading.specs.Closers as closer
 
--- the closing marks, by number: `]`, `)`, `*`, `*}`, `_`, `_}`, `^`, `^}`, `~`, `~}`, `=}`, `-}`, `+}`, single quote, double quote (a quote closes
--- with a brace or without)
+-- the mark that closes an opener
 unfoldable pub closed-by : Sort → ℕ
-closed-by sort.Span = 1
-closed-by sort.Image = 1
-closed-by sort.Strong = 3
-closed-by sort.BraceStrong = 4
-closed-by sort.Emphasis = 5
-closed-by sort.BraceEmphasis = 6
-closed-by sort.Superscript = 7
-closed-by sort.BraceSuperscript = 8
-closed-by sort.Subscript = 9
-closed-by sort.BraceSubscript = 10
-closed-by sort.Mark = 11
-closed-by sort.Delete = 12
-closed-by sort.Insert = 13
-closed-by sort.SingleQuoted = 14
-closed-by sort.DoubleQuoted = 15
-closed-by sort.ReferenceLink = 1
-closed-by sort.ReferenceImage = 1
-closed-by sort.InlineLink = 2
-closed-by sort.InlineImage = 2
+closed-by sort.Span = closer.bracket
+closed-by sort.Image = closer.bracket
+closed-by sort.Strong = closer.asterisk
+closed-by sort.BraceStrong = closer.brace-asterisk
+closed-by sort.Emphasis = closer.underscore
+closed-by sort.BraceEmphasis = closer.brace-underscore
+closed-by sort.Superscript = closer.caret
+closed-by sort.BraceSuperscript = closer.brace-caret
+closed-by sort.Subscript = closer.tilde
+closed-by sort.BraceSubscript = closer.brace-tilde
+closed-by sort.Mark = closer.brace-equal
+closed-by sort.Delete = closer.brace-hyphen
+closed-by sort.Insert = closer.brace-plus
+closed-by sort.SingleQuoted = closer.quote1
+closed-by sort.DoubleQuoted = closer.quote2
+closed-by sort.ReferenceLink = closer.bracket
+closed-by sort.ReferenceImage = closer.bracket
+closed-by sort.InlineLink = closer.paren
+closed-by sort.InlineImage = closer.paren
 
 -- `*`, `_`, `^`, `~` without a brace, and all quotes, can open and close (Djot: so they ask what stands beside them)
 abbrev pub two-way : Sort → Bool
-two-way s = among (3 ∷ 5 ∷ 7 ∷ 9 ∷ 14 ∷ 15 ∷ []) (closed-by s)
+two-way s = among (closer.asterisk ∷ closer.underscore ∷ closer.caret ∷ closer.tilde ∷ closer.quote1 ∷ closer.quote2 ∷ []) (closed-by s)
 
--- spans and links, which may be empty: closed by `]` or `)`
+-- spans and links may be empty
 abbrev pub may-be-empty : Sort → Bool
-may-be-empty s = leb (closed-by s) 2
+may-be-empty s = among (closer.bracket ∷ closer.paren ∷ []) (closed-by s)
 
 abbrev pub is-single : Sort → Bool
-is-single s = eqb (closed-by s) 14
+is-single s = eqb (closed-by s) closer.quote1
 
 -- the event of an opener that is not closed: right single, left double, else Str
 unfoldable pub unclosed : Sort → ℕ
-unclosed s = elim (eqb (closed-by s) 14) [ true ↦ right-single | false ↦ elim (eqb (closed-by s) 15) [ true ↦ left-double | false ↦ str ] ]
+unclosed s =
+    elim (eqb (closed-by s) closer.quote1) [ true ↦ right-single | false ↦ elim (eqb (closed-by s) closer.quote2) [ true ↦ left-double | false ↦ str ] ]
 
 abbrev container : ℕ → DelimEventKind
 container k = makes.Pair record { first = enter k; second = exit k }
@@ -102,10 +103,10 @@ marks o c a = record { opens = o; closes = c; alone = a }
 
 -- a token that opens and closes nothing
 abbrev pub plain : ℕ → Marks
-plain kind = marks None 0 kind
+plain kind = marks None closer.none kind
 
 abbrev opening : Sort → Role
-opening s = role.Other (marks (Some s) 0 str)
+opening s = role.Other (marks (Some s) closer.none str)
 
 abbrev closing : ℕ → Role
 closing c = role.Other (marks None c str)
@@ -115,7 +116,7 @@ both s = role.Other (marks (Some s) (closed-by s) str)
 
 -- `[` and `[^` open a span
 abbrev pub bracket : Marks
-bracket = marks (Some sort.Span) 0 str
+bracket = marks (Some sort.Span) closer.none str
 
 -- every kind of token. A quote that neither opens nor closes is a left one if it was written `{'` or `{"`, else a right one
 unfoldable pub role-of : Kind → Role
@@ -133,28 +134,28 @@ role-of (Open BracePlus) = opening sort.Insert
 role-of (Open BraceTilde) = opening sort.BraceSubscript
 role-of (Open BraceUnderscore) = opening sort.BraceEmphasis
 role-of (Open Bracket) = role.Bracket
-role-of (Open BraceQuote1) = role.Other (marks (Some sort.SingleQuoted) 0 left-single)
-role-of (Open BraceQuote2) = role.Other (marks (Some sort.DoubleQuoted) 0 left-double)
+role-of (Open BraceQuote1) = role.Other (marks (Some sort.SingleQuoted) closer.none left-single)
+role-of (Open BraceQuote2) = role.Other (marks (Some sort.DoubleQuoted) closer.none left-double)
 role-of (Open Paren) = role.Paren
 role-of (Close Brace) = role.Other (plain str)
-role-of (Close BraceAsterisk) = closing 4
-role-of (Close BraceCaret) = closing 8
-role-of (Close BraceEqual) = closing 11
-role-of (Close BraceHyphen) = closing 12
-role-of (Close BracePlus) = closing 13
-role-of (Close BraceTilde) = closing 10
-role-of (Close BraceUnderscore) = closing 6
-role-of (Close Bracket) = closing 1
-role-of (Close BraceQuote1) = role.Other (marks None 14 right-single)
-role-of (Close BraceQuote2) = role.Other (marks None 15 right-double)
-role-of (Close Paren) = closing 2
+role-of (Close BraceAsterisk) = closing closer.brace-asterisk
+role-of (Close BraceCaret) = closing closer.brace-caret
+role-of (Close BraceEqual) = closing closer.brace-equal
+role-of (Close BraceHyphen) = closing closer.brace-hyphen
+role-of (Close BracePlus) = closing closer.brace-plus
+role-of (Close BraceTilde) = closing closer.brace-tilde
+role-of (Close BraceUnderscore) = closing closer.brace-underscore
+role-of (Close Bracket) = closing closer.bracket
+role-of (Close BraceQuote1) = role.Other (marks None closer.quote1 right-single)
+role-of (Close BraceQuote2) = role.Other (marks None closer.quote2 right-double)
+role-of (Close Paren) = closing closer.paren
 role-of (Sym Asterisk) = both sort.Strong
 role-of (Sym Caret) = both sort.Superscript
 role-of (Sym ExclaimBracket) = opening sort.Image
 role-of (Sym Lt) = role.Lt
 role-of (Sym Pipe) = role.Other (plain str)
-role-of (Sym Quote1) = role.Other (marks (Some sort.SingleQuoted) 14 right-single)
-role-of (Sym Quote2) = role.Other (marks (Some sort.DoubleQuoted) 15 right-double)
+role-of (Sym Quote1) = role.Other (marks (Some sort.SingleQuoted) closer.quote1 right-single)
+role-of (Sym Quote2) = role.Other (marks (Some sort.DoubleQuoted) closer.quote2 right-double)
 role-of (Sym Tilde) = both sort.Subscript
 role-of (Sym Underscore) = both sort.Emphasis
 role-of (Sym Colon) = role.Colon
@@ -192,7 +193,7 @@ opens-a c (role.Other m) = opens-closed-by c (m .opens)
 
 -- `{=`, and `^`
 abbrev pub is-format : Role → Bool
-is-format r = opens-a 11 r
+is-format r = opens-a closer.brace-equal r
 
 abbrev pub is-caret : Role → Bool
-is-caret r = opens-a 7 r
+is-caret r = opens-a closer.caret r

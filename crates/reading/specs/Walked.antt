@@ -9,7 +9,8 @@ use lib.ListN.{length, getD}
 use Rattle.classes.specs.Classes.{bit, blank}
 use Rattle.reading.specs.declared.Line.{Line}
 use Rattle.reading.specs.declared.Event.{Event}
-use Rattle.reading.specs.Events.{Home, homeOf, exit, reference-link, inline-image}
+use Rattle.reading.specs.declared.Home.{Home}
+use Rattle.reading.specs.Events.{homeOf, enter-from, exit-from, exit, reference-link, inline-image}
 use Rattle.reading.specs.Machine.{Sheet}
 use Rattle.reading.specs.Reading.{end-of, sheet, read}
 use Rattle.reading.specs.Dropped.{dropped}
@@ -29,9 +30,12 @@ pub data Walk : Type 0 where
 
 unfoldable pub walk-by : ℕ → Home → Walk
 walk-by kind h =
-    elim (ltb kind 32) [
+    elim (ltb kind enter-from) [
       | true ↦ neither
-      | false ↦ elim (ltb kind 64) [ true ↦ opening record { k = kind - 32; home = h } | false ↦ closing record { k = kind - 64; home = h } ]
+      | false ↦ elim (ltb kind exit-from) [
+        | true ↦ opening record { k = kind - enter-from; home = h }
+        | false ↦ closing record { k = kind - exit-from; home = h }
+      ]
     ]
 
 abbrev pub walk-of : Event → Walk

@@ -1,5 +1,32 @@
-// What a reading is told in: lines, events, openers, and the parts of the parser's state. The definition in `specs/` and the parser share
+// The types of a reading: lines, events, openers, and the parts of the parser's state. The definition in `specs/` and the parser share
 // them.
+pub mod closer;
+pub mod code;
+pub mod container;
+pub mod kind;
+
+// The numbers of a record: an event that is handed out, one of the queue, an opener.
+pub const EVENT_NUMBERS: usize = 7;
+
+pub const QUEUE_NUMBERS: usize = 8;
+
+pub const OPENER_NUMBERS: usize = 4;
+
+// The largest text in bytes, and the longest line list in records.
+pub const LARGEST: usize = 1048576;
+
+// Of a longer label room only so many bytes count.
+pub const LABEL_LIMIT: usize = 4294967295;
+
+// The longest run of backticks that opens.
+pub const LONGEST_RUN: usize = 255;
+
+// The homes.
+pub const NO_HOME: u32 = 0;
+
+pub const IN_TEXT: u32 = 1;
+
+pub const IN_LABELS: u32 = 2;
 
 // A line record of the sheet: from start to before end.
 #[repr(C)]
@@ -13,6 +40,14 @@ pub struct Place(pub u32);
 
 // A link number: links count from 0 in the order in which they close.
 pub struct Link(pub u32);
+
+// What an event holds beside its kind and span: the home, from where to where in it, and the link number.
+pub struct Home {
+    pub home: u32,
+    pub start: Place,
+    pub end: Place,
+    pub link: Link,
+}
 
 // An event, as it is handed out.
 pub struct Event {

@@ -1,15 +1,2 @@
 pub mod Kept
-pub mod LineCountKinds
-pub mod LineCountReads
-pub mod LineAtKinds
-pub mod LineAtReads
-pub mod CheckLinesKinds
-pub mod CheckLinesReads
-pub mod QuestionsKinds
-pub mod QuestionsReads
-pub mod ParseKinds
-pub mod ParseReads
-pub mod ParseLinesKinds
-pub mod ParseLinesReads
-pub mod ReadKinds
-pub mod ReadReads
+pub mod Twin

@@ -2,18 +2,19 @@
 ghost use mathlib.Core.Path.{_≡_};
 ghost use Prim.Native.Nat.{_+_, _/_, _^_, _≤_, _<_};
 ghost use lib.ListN.{length, getD};
+ghost use Rattle.reading.specs.Events.{event-numbers, largest};
 ghost use Rattle.reading.specs.Reading.{sheet, read as read-of};
 ghost use Rattle.reading.specs.Questions.{total, label-room, outcome};
 ghost use Rattle.reading.specs.Walked.{Accepted};
 ghost use Rattle.inline.specs.Lines.{none};
 ghost use Rattle.inline.specs.Asks.{Sheeted, StandsFor};
-ghost use Rattle.reader.specs.Asking.{linesSaid, askedOf, Passed, Small};
-ghost use Rattle.reader.specs.Telling.{lent, told};
-use reader::Asked;
-use reader::Early;
-use reader::Lines;
-use reader::Walk;
-use reader::Walked;
+ghost use Rattle.questions.specs.Asking.{checkedLines, askedOf, Passed, Small};
+ghost use Rattle.outcome.specs.Outcomes.{rooms-of, outcome-of};
+use questions::Asked;
+use questions::Early;
+use questions::LineWalk;
+use questions::Lines;
+use questions::WalkedLine;
 use reading::Answer;
 use reading::Line;
 use rooms::Parser;
@@ -33,13 +34,13 @@ fn line_at(lines: &[Line], i: usize) -> Line
 
 // 3: has every line start ≤ end ≤ text length? 4: does each line start at or after the end of the one before?
 fn check_lines(text: &[u8], lines: &[Line]) -> Lines
-    requires { ⌜ length (now text) ≤ 1048576 ⌝ }
-    requires { ⌜ length (now lines) ≤ 1048576 ⌝ }
-    ensures { λ r. ⌜ r ≡ linesSaid (now (text .entry)) (now (lines .entry)) ⌝ }
+    requires { ⌜ length (now text) ≤ largest ⌝ }
+    requires { ⌜ length (now lines) ≤ largest ⌝ }
+    ensures { λ r. ⌜ r ≡ checkedLines (now (text .entry)) (now (lines .entry)) ⌝ }
     ensures { λ r. ⌜ Small r ⌝ }
 {
     let n = line_count(lines);
-    let mut w = Walk {
+    let mut w = LineWalk {
         end: 0,
         total: 0,
         early: Early::No,
@@ -49,13 +50,13 @@ fn check_lines(text: &[u8], lines: &[Line]) -> Lines
         let l = line_at(lines, i);
         let start = l.start;
         let end = l.end;
-        let Walked::On(next) = reader::walk_line(w, i, start, end, text.len()) else {
+        let WalkedLine::On(next) = questions::walk_line(w, i, start, end, text.len()) else {
             return Lines::Outside(i);
         };
         w = next;
         i += 1;
     }
-    reader::all_walked(w)
+    questions::all_walked(w)
 }
 
 // 1 to 6.
@@ -63,12 +64,12 @@ fn questions(text: &[u8], lines: &[Line], reading: u32, queue: usize, openers: u
     ensures { λ r. ⌜ r ≡ askedOf (now (text .entry)) (now (lines .entry)) reading queue openers ⌝ }
 {
     let n = line_count(lines);
-    let limit = reader::limits(reading, text.len(), n);
+    let limit = questions::limits(reading, text.len(), n);
     if limit != 0 {
-        return Asked::Refused(reader::refusal(limit, 0));
+        return Asked::Refused(outcome::refusal(limit, 0));
     }
-    let said = check_lines(text, lines);
-    reader::ask_rooms(said, queue, openers)
+    let checked = check_lines(text, lines);
+    questions::ask_rooms(checked, queue, openers)
 }
 
 // All lines, and the end.
@@ -85,6 +86,7 @@ fn parse(
         (length (now (labels .entry)))) (now (lines .entry))) ⌝ }
 {
     let n = line_count(lines);
+    let flags = classes::classes();
     let mut p = inline::fresh();
     let mut end = 0;
     let mut i = 0;
@@ -92,7 +94,7 @@ fn parse(
         let l = line_at(lines, i);
         let start = l.start;
         end = l.end;
-        p = inline::feed_line(text, start, end, reading, p, queue, openers, labels);
+        p = inline::feed_line(text, start, end, reading, p, queue, openers, labels, &flags);
         i += 1;
     }
     inline::finish(end, p, queue)
@@ -126,11 +128,11 @@ pub fn read(
     openers: &mut [u32],
     labels: &mut [u8],
 ) -> Answer
-    ensures { λ r. ⌜ told r (now (events .exit)) (now (queue .exit)) (now (openers .exit)) (now (labels .exit)) ≡ outcome (now (text .entry))
-        (now (lines .entry)) reading (lent (now (events .entry)) (now (queue .entry)) (now (openers .entry)) (now (labels .entry))) ⌝ }
-    ensures { λ r. ⌜ (r .code ≡ 0 → Accepted (now (text .entry)) (now (lines .entry)) reading (lent (now (events .entry)) (now (queue .entry)) (now
-        (openers .entry)) (now (labels .entry))) (told r (now (events .exit)) (now (queue .exit)) (now (openers .exit)) (now (labels .exit)))) ⌝ }
-    ensures { λ r. ⌜ (total (now (lines .entry)) + 1 ≤ length (now (events .entry)) / 7 → r .code ≡ 9 → ⊥) ⌝ }
+    ensures { λ r. ⌜ outcome-of r (now (events .exit)) (now (queue .exit)) (now (openers .exit)) (now (labels .exit)) ≡ outcome (now (text .entry))
+        (now (lines .entry)) reading (rooms-of (now (events .entry)) (now (queue .entry)) (now (openers .entry)) (now (labels .entry))) ⌝ }
+    ensures { λ r. ⌜ (r .code ≡ 0 → Accepted (now (text .entry)) (now (lines .entry)) reading (rooms-of (now (events .entry)) (now (queue .entry)) (now
+        (openers .entry)) (now (labels .entry))) (outcome-of r (now (events .exit)) (now (queue .exit)) (now (openers .exit)) (now (labels .exit)))) ⌝ }
+    ensures { λ r. ⌜ (total (now (lines .entry)) + 1 ≤ length (now (events .entry)) / event-numbers → r .code ≡ 9 → ⊥) ⌝ }
 {
     let asked = questions(text, lines, reading, queue.len(), openers.len());
     match asked {

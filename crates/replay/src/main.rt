@@ -1,8 +1,8 @@
 // Replays the stored answers of the Rust, case by case, and prints how many cases there were and how many differ.
 // A case begins with its sort: 0 the tokens of a line, 1 to 4 a scan ahead, 5 a run of hyphens, 6 a run of periods.
 use exports::Counts;
+use exports::CursorNumbers;
 use exports::Scanned;
-use exports::State;
 use stored::Case;
 use stored::Report;
 use stored::fill;
@@ -14,9 +14,9 @@ fn bit(pattern: u64, i: u64) -> bool {
 }
 
 // The state before token i: with its flag, and peeked at where the pattern says so.
-fn before(line: &[u8], s: State, peeks: u64, verbatim: u64, i: u64) -> State {
+fn before(line: &[u8], s: CursorNumbers, peeks: u64, verbatim: u64, i: u64) -> CursorNumbers {
     let next = s.next;
-    let flagged = State {
+    let flagged = CursorNumbers {
         pos: s.pos,
         escape: s.escape,
         verbatim: bit(verbatim, i),

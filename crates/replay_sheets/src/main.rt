@@ -7,6 +7,8 @@ ghost use lib.ListN.{length};
 ghost use mathlib.Core.Path.{_≡_};
 ghost use Rattle.replay_sheets.specs.Rooms.{allAre, sameAs, holds};
 use reading::Answer;
+use reading::EVENT_NUMBERS;
+use reading::code;
 use stored::Case;
 use stored::Report;
 use stored::fill;
@@ -146,7 +148,7 @@ fn compare_rooms(
 ) -> Case {
     let code = answer.code;
     if code == 0 {
-        let e = compare_numbers(sample, from, answer.events as usize * 7, events);
+        let e = compare_numbers(sample, from, answer.events as usize * EVENT_NUMBERS, events);
         let l = compare_bytes(sample, e.next, answer.labels as usize, labels);
         let clear = all_are(queue, 0) & all_are(openers, 0);
         return Case {
@@ -154,7 +156,7 @@ fn compare_rooms(
             same: e.same & l.same & clear,
         };
     }
-    let same = if code < 7 {
+    let same = if code < code::BRACE {
         rooms_are(OLD, OLD_BYTE, events, queue, openers, labels)
     } else {
         rooms_are(0, 0, events, queue, openers, labels)
@@ -213,7 +215,7 @@ fn replay_call(
 }
 
 // A stored size, and never more than there is.
-fn lent(size: u64, most: usize) -> usize
+fn at_most(size: u64, most: usize) -> usize
     ensures { λ r. ⌜ r ≡ min size most ⌝ }
 {
     if size < most as u64 {
@@ -240,10 +242,10 @@ fn replay_sizes(
     let second = number_at(sample, first.next);
     let third = number_at(sample, second.next);
     let fourth = number_at(sample, third.next);
-    let e = lent(first.value, events.len());
-    let q = lent(second.value, queue.len());
-    let o = lent(third.value, openers.len());
-    let l = lent(fourth.value, labels.len());
+    let e = at_most(first.value, events.len());
+    let q = at_most(second.value, queue.len());
+    let o = at_most(third.value, openers.len());
+    let l = at_most(fourth.value, labels.len());
     let c = replay_call(
         sample,
         fourth.next,

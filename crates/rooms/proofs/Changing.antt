@@ -7,7 +7,7 @@ use Rattle.reading.specs.Machine.{State, Turn}
 use Rattle.rooms.specs.declared.Parser.{Parser}
 use Rattle.rooms.specs.Records.{eventAt, openerAt}
 use Rattle.rooms.specs.Standing.{stands, Changed, Stepped}
-use Rattle.rooms.proofs.Rows.{rows-length, pile-length}
+use Rattle.rooms.proofs.Rows.{rows-length, stack-length}
 
 module _ (p : Parser) (q o : List ℕ) (r : Parser) (q′ o′ : List ℕ) (f : State → Turn) (c : Changed p q o r q′ o′ f) where
   -- the cursor, and the counts of records
@@ -18,7 +18,7 @@ module _ (p : Parser) (q o : List ℕ) (r : Parser) (q′ o′ : List ℕ) (f : 
   changed-events = sym (rows-length eventAt (r .events) q′) ∙ ap (λ (a : Turn). length (a .state .queue)) (c .same [])
 
   pub changed-openers : r .openers ≡ length (f (stands p q o []) .state .openers)
-  changed-openers = sym (pile-length openerAt (r .openers) o′) ∙ ap (λ (a : Turn). length (a .state .openers)) (c .same [])
+  changed-openers = sym (stack-length openerAt (r .openers) o′) ∙ ap (λ (a : Turn). length (a .state .openers)) (c .same [])
 
   -- another change behind it
   pub then : (t : Parser) (q″ o″ : List ℕ) (g h : State → Turn) → Changed r q′ o′ t q″ o″ g → ((s : State) → g (f s .state) ≡ h s)

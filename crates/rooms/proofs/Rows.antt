@@ -1,4 +1,4 @@
--- The laws of `rows` and `pile`, for any kind of record: their length, one of their records, fewer of them, and what two rooms share.
+-- The laws of `rows` and `stack`, for any kind of record: their length, one of their records, fewer of them, and what two rooms share.
 -- And of `sets`, a run of stores: what it leaves before its start, and what it leaves where it stored.
 use Prim.Native.Nat.{ℕ, zero, suc, _+_, _≤_, _<_}
 use mathlib.Core.Path.{_≡_, refl, sym, ap, _∙_}
@@ -8,7 +8,7 @@ use native.Mathlib.Nat.{eq-or-lt-of-le, le-of-suc-le-suc, add-zero, add-suc, suc
 use native.Mathlib.Omega.{arith}
 use lib.ListN.{length, getD, take, set, length-append, length-set, List·getD-append}
 use lib.Seq.{sets, getD-set-same, getD-set-other, getD-at, take-append-le, take-all}
-use Rattle.rooms.specs.Rows.{rows, pile}
+use Rattle.rooms.specs.Rows.{rows, stack}
 
 module _ {R : Type 0} (read : List ℕ → ℕ → R) where
   pub rows-length : (n : ℕ) (room : List ℕ) → length (rows read n room) ≡ n
@@ -16,10 +16,10 @@ module _ {R : Type 0} (read : List ℕ → ℕ → R) where
   rows-length zero room = refl
   rows-length (suc n) room = length-append (rows read n room) _ ∙ omega (arith, rows-length n room)
 
-  pub pile-length : (n : ℕ) (room : List ℕ) → length (pile read n room) ≡ n
-  unfolding pile
-  pile-length zero room = refl
-  pile-length (suc n) room = ap suc (pile-length n room)
+  pub stack-length : (n : ℕ) (room : List ℕ) → length (stack read n room) ≡ n
+  unfolding stack
+  stack-length zero room = refl
+  stack-length (suc n) room = ap suc (stack-length n room)
 
   -- two rooms with the same n records
   pub rows-same : (n : ℕ) (a b : List ℕ) → ((i : ℕ) → i < n → read a i ≡ read b i) → rows read n a ≡ rows read n b
@@ -27,10 +27,10 @@ module _ {R : Type 0} (read : List ℕ → ℕ → R) where
   rows-same zero a b h = refl
   rows-same (suc n) a b h = rw (rows-same n a b (λ i l. h i (omega arith)), h n (omega arith))
 
-  pub pile-same : (n : ℕ) (a b : List ℕ) → ((i : ℕ) → i < n → read a i ≡ read b i) → pile read n a ≡ pile read n b
-  unfolding pile
-  pile-same zero a b h = refl
-  pile-same (suc n) a b h = rw (pile-same n a b (λ i l. h i (omega arith)), h n (omega arith))
+  pub stack-same : (n : ℕ) (a b : List ℕ) → ((i : ℕ) → i < n → read a i ≡ read b i) → stack read n a ≡ stack read n b
+  unfolding stack
+  stack-same zero a b h = refl
+  stack-same (suc n) a b h = rw (stack-same n a b (λ i l. h i (omega arith)), h n (omega arith))
 
   -- one of the records
   pub rows-at : (n : ℕ) (room : List ℕ) (i : ℕ) (d : R) → i < n → getD (rows read n room) i d ≡ read room i

@@ -15,9 +15,9 @@ use Rattle.reading.proofs.Ends.{seek-none}
 use Rattle.tables.specs.Tables.{number, sort-at}
 use Rattle.tables.proofs.Tables.{sort-number}
 use Rattle.rooms.specs.declared.Found.the-variants.{At, Nothing}
-use Rattle.rooms.specs.Rows.{pile}
+use Rattle.rooms.specs.Rows.{stack}
 use Rattle.rooms.specs.Records.{openerAt, opens, place}
-use Rattle.rooms.proofs.Rows.{pile-same, pile-length, sets-before, sets-at}
+use Rattle.rooms.proofs.Rows.{stack-same, stack-length, sets-before, sets-at}
 
 -- an opener as it lies in a room
 abbrev encode-opener : Opener → List ℕ
@@ -26,7 +26,7 @@ encode-opener o = number (o .sort) ∷ o .event ∷ o .span ∷ 0 ∷ []
 -- one more opener
 module _ (room : List ℕ) (n : ℕ) (o : Opener) (fits : n * 4 + 4 ≤ length room) where
   pub opened : opens (suc n) (sets room (n * 4) (encode-opener o)) ≡ o ∷ opens n room
-  unfolding pile
+  unfolding stack
   opened = λ t. _∷_ (stored t) (below t)
     where
       at : (k : ℕ) → k < 4 → getD (sets room (n * 4) (encode-opener o)) (n * 4 + k) 0 ≡ getD (encode-opener o) k 0
@@ -46,23 +46,23 @@ module _ (room : List ℕ) (n : ℕ) (o : Opener) (fits : n * 4 + 4 ≤ length r
 
       below : opens n (sets room (n * 4) (encode-opener o)) ≡ opens n room
       below =
-          pile-same openerAt n (sets room (n * 4) (encode-opener o)) room
+          stack-same openerAt n (sets room (n * 4) (encode-opener o)) room
           (λ i l. λ t. record { sort = sort-at (old (i * 4) (omega arith) t); event = old (i * 4 + 1) (omega arith) t; span = old (i * 4 + 2) (omega arith) t })
 
 module _ (room : List ℕ) (mark : ℕ) where
   -- the newest opener is closed by the mark
   seek-hit : (i : ℕ) → closed-by (sort-at (getD room (i * 4) 0)) ≡ mark → seek mark (opens (suc i) room) ≡ openerAt room i ∷ opens i room
-  unfolding pile seek
+  unfolding stack seek
   seek-hit i e = rw (eq-eqb _ _ e, seek)
 
   -- the newest opener is closed by another
   seek-skip : (i : ℕ) → (closed-by (sort-at (getD room (i * 4) 0)) ≡ mark → ⊥) → seek mark (opens (suc i) room) ≡ seek mark (opens i room)
-  unfolding pile seek
+  unfolding stack seek
   seek-skip i ne = rw (ne-eqb _ _ ne, seek)
 
   place-at : (i : ℕ) → place (openerAt room i ∷ opens i room) ≡ At i
   unfolding place
-  place-at i = ap At (pile-length openerAt i room)
+  place-at i = ap At (stack-length openerAt i room)
 
   place-hit : (i : ℕ) → closed-by (sort-at (getD room (i * 4) 0)) ≡ mark → place (seek mark (opens (suc i) room)) ≡ At i
   place-hit i e = rw (seek-hit i e) (place-at i)
@@ -70,7 +70,7 @@ module _ (room : List ℕ) (mark : ℕ) where
   -- the answer `At i` names an opener within, and those below it
   pub found-at : (n i : ℕ) → place (seek mark (opens n room)) ≡ At i
       → (i < n) × (seek mark (opens n room) ≡ openerAt room i ∷ opens i room)
-  unfolding pile seek place
+  unfolding stack seek place
   found-at zero i e = let z : _≡_ {A = ℕ} 0 1 = cc in absurd (omega arith)
   found-at (suc n) i e = go (ℕ-discrete (closed-by (sort-at (getD room (n * 4) 0))) mark) (found-at n i)
     where
@@ -93,7 +93,7 @@ found-zero room mark n e = rw (e, seek-none (opens n room))
 -- i openers are left to search, and the answer is that of all n
 module _ (room : List ℕ) (mark n i : ℕ) (inv : seek mark (opens i room) ≡ seek mark (opens n room)) where
   pub found-nothing : i ≡ 0 → Nothing ≡ place (seek mark (opens n room))
-  unfolding pile seek place
+  unfolding stack seek place
   found-nothing e = rw (← inv, e)
 
   -- one turn: the newest of them is closed by the mark, or is not

@@ -8,6 +8,6 @@ rows read zero room = []
 rows read (suc n) room = rows read n room ++ (read room n ∷ [])
 
 -- the first n records, the newest first: a stack
-unfoldable pub pile : {R : Type 0} → (List ℕ → ℕ → R) → ℕ → List ℕ → List R
-pile read zero room = []
-pile read (suc n) room = read room n ∷ pile read n room
+unfoldable pub stack : {R : Type 0} → (List ℕ → ℕ → R) → ℕ → List ℕ → List R
+stack read zero room = []
+stack read (suc n) room = read room n ∷ stack read n room

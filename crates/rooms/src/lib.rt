@@ -1,25 +1,29 @@
-// The parser's state by value, and its records in lent rooms: eight numbers an event of the queue, four an opener.
+// The parser's state by value, and its records in lent rooms.
 ghost use mathlib.Core.Path.{_≡_};
 ghost use mathlib.Core.List.{List, [], _∷_, _++_};
 ghost use Prim.Native.Nat.{ℕ, _+_, _*_, _^_, _≤_, _<_};
 ghost use lib.ListN.{length};
 ghost use lib.Seq.{sets};
-ghost use Rattle.reading.specs.Events.{homed, becomes, becomes-to, shorter};
+ghost use Rattle.reading.specs.Events.{homed, becomes, becomes-to, shorter, queue-numbers, opener-numbers};
 ghost use Rattle.reading.specs.Machine.{amend};
 ghost use Rattle.reading.specs.Containers.{seek as sought};
-ghost use Rattle.rooms.specs.Records.{eventAt, events, encode, homeAs, openerAt, opens, place};
-ghost use Rattle.rooms.specs.Standing.{moved as movedTo, insideOf};
+ghost use Rattle.rooms.specs.Records.{eventAt, events, encode, openerAt, opens, place};
+ghost use Rattle.rooms.specs.Standing.{moved as movedTo, insideOf, refusing as refusingAt, freshOf};
 use lex::Cursor;
 use lex::Next;
 use lex::Token;
 use reading::Event;
+use reading::Home;
 use reading::Inside;
 use reading::Last;
 use reading::Link;
+use reading::OPENER_NUMBERS;
 use reading::Opener;
 use reading::Place;
+use reading::QUEUE_NUMBERS;
 use reading::Refused;
 use reading::Verbatim;
+use reading::closer;
 
 // What a reading is at between two tokens: the cursor in the line, how many records the queue and the openers hold, the open verbatim, the
 // newest event, the label bytes built and whether all of them fitted, the next link's number, and the first bare brace.
@@ -45,14 +49,6 @@ pub struct Margin {
 pub struct Span {
     pub from: usize,
     pub to: usize,
-}
-
-// What an event holds beside its kind and span.
-pub struct Home {
-    pub home: u32,
-    pub start: Place,
-    pub end: Place,
-    pub link: Link,
 }
 
 // The place of an opener in its room.
@@ -148,12 +144,50 @@ pub fn inside(p: Parser, w: Inside) -> Parser
     }
 }
 
+// The parser that met a bare brace.
+pub fn refusing(p: Parser, at: Place) -> Parser
+    ensures { λ r. ⌜ r ≡ refusingAt p at ⌝ }
+{
+    let cursor = p.cursor;
+    let w = p.inside;
+    let last = p.last;
+    let links = p.links;
+    Parser {
+        cursor: cursor,
+        events: p.events,
+        openers: p.openers,
+        inside: w,
+        last: last,
+        labels: p.labels,
+        fits: p.fits,
+        links: links,
+        refused: Refused::At(at),
+    }
+}
+
+// Nothing is queued, open or refused.
+pub fn fresh(cursor: Cursor, last: Last) -> Parser
+    ensures { λ r. ⌜ r ≡ freshOf cursor last ⌝ }
+{
+    Parser {
+        cursor: cursor,
+        events: 0,
+        openers: 0,
+        inside: Inside::No,
+        last: last,
+        labels: 0,
+        fits: true,
+        links: Link(0),
+        refused: Refused::No,
+    }
+}
+
 // The event at place i of the queue.
 pub fn event_at(queue: &[u32], i: usize) -> Event
-    requires { ⌜ i * 8 + 8 ≤ length (now queue) ⌝ }
+    requires { ⌜ i * queue-numbers + queue-numbers ≤ length (now queue) ⌝ }
     ensures { λ r. ⌜ r ≡ eventAt (now (queue .entry)) i ⌝ }
 {
-    let at = i * 8;
+    let at = i * QUEUE_NUMBERS;
     Event {
         kind: queue[at],
         start: Place(queue[at + 1]),
@@ -167,10 +201,10 @@ pub fn event_at(queue: &[u32], i: usize) -> Event
 
 // The stores of an event, in plain terms.
 fn store(queue: &mut [u32], i: usize, e: Event)
-    requires { ⌜ i * 8 + 8 ≤ length (now queue) ⌝ }
-    ensures { λ _. ⌜ now (queue .exit) ≡ sets (now (queue .entry)) (i * 8) (encode e) ⌝ }
+    requires { ⌜ i * queue-numbers + queue-numbers ≤ length (now queue) ⌝ }
+    ensures { λ _. ⌜ now (queue .exit) ≡ sets (now (queue .entry)) (i * queue-numbers) (encode e) ⌝ }
 {
-    let at = i * 8;
+    let at = i * QUEUE_NUMBERS;
     let start = e.start;
     let end = e.end;
     let home_start = e.home_start;
@@ -188,7 +222,7 @@ fn store(queue: &mut [u32], i: usize, e: Event)
 
 // One more event behind the first n. What lies behind it is open.
 pub fn push(queue: &mut [u32], n: usize, e: Event)
-    requires { ⌜ n * 8 + 8 ≤ length (now queue) ⌝ }
+    requires { ⌜ n * queue-numbers + queue-numbers ≤ length (now queue) ⌝ }
     ensures { λ _. ⌜ events (n + 1) (now (queue .exit)) ≡ events n (now (queue .entry)) ++ (e ∷ []) ⌝ }
 {
     store(queue, n, e);
@@ -196,7 +230,7 @@ pub fn push(queue: &mut [u32], n: usize, e: Event)
 
 // An event with a kind, a span and a home.
 pub fn event_of(kind: u32, start: Place, end: Place, h: Home) -> Event
-    ensures { λ r. ⌜ r ≡ homed kind (homeAs h) (start .0) (end .0) ⌝ }
+    ensures { λ r. ⌜ r ≡ homed kind h (start .0) (end .0) ⌝ }
 {
     let home_start = h.start;
     let home_end = h.end;
@@ -214,8 +248,8 @@ pub fn event_of(kind: u32, start: Place, end: Place, h: Home) -> Event
 
 // Another kind and home for the event at place i, whose span stays. Here and below, a record's last number is open.
 pub fn set_kind(queue: &mut [u32], i: usize, kind: u32, h: Home)
-    requires { ⌜ i * 8 + 8 ≤ length (now queue) ⌝ }
-    ensures { λ _. ⌜ ((n : ℕ) → events n (now (queue .exit)) ≡ amend (becomes kind (homeAs h)) i (events n (now (queue .entry)))) ⌝ }
+    requires { ⌜ i * queue-numbers + queue-numbers ≤ length (now queue) ⌝ }
+    ensures { λ _. ⌜ ((n : ℕ) → events n (now (queue .exit)) ≡ amend (becomes kind h) i (events n (now (queue .entry)))) ⌝ }
 {
     let e = event_at(queue, i);
     let start = e.start;
@@ -225,8 +259,8 @@ pub fn set_kind(queue: &mut [u32], i: usize, kind: u32, h: Home)
 
 // The same, with another end.
 pub fn set_kind_to(queue: &mut [u32], i: usize, kind: u32, h: Home, end: Place)
-    requires { ⌜ i * 8 + 8 ≤ length (now queue) ⌝ }
-    ensures { λ _. ⌜ ((n : ℕ) → events n (now (queue .exit)) ≡ amend (becomes-to kind (homeAs h) (end .0)) i (events n (now (queue .entry)))) ⌝ }
+    requires { ⌜ i * queue-numbers + queue-numbers ≤ length (now queue) ⌝ }
+    ensures { λ _. ⌜ ((n : ℕ) → events n (now (queue .exit)) ≡ amend (becomes-to kind h (end .0)) i (events n (now (queue .entry)))) ⌝ }
 {
     let e = event_at(queue, i);
     let start = e.start;
@@ -235,7 +269,7 @@ pub fn set_kind_to(queue: &mut [u32], i: usize, kind: u32, h: Home, end: Place)
 
 // The event at place i, shorter at its end by some bytes that it has.
 pub fn shorten(queue: &mut [u32], i: usize, bytes: u32)
-    requires { ⌜ i * 8 + 8 ≤ length (now queue) ⌝ }
+    requires { ⌜ i * queue-numbers + queue-numbers ≤ length (now queue) ⌝ }
     requires { ⌜ bytes ≤ eventAt (now queue) i .end .0 ⌝ }
     ensures { λ _. ⌜ ((n : ℕ) → events n (now (queue .exit)) ≡ amend (shorter bytes) i (events n (now (queue .entry)))) ⌝ }
 {
@@ -256,10 +290,10 @@ pub fn wide(x: u32) -> usize
 
 // The opener at place i.
 pub fn opener_at(openers: &[u32], i: usize) -> Opener
-    requires { ⌜ i * 4 + 4 ≤ length (now openers) ⌝ }
+    requires { ⌜ i * opener-numbers + opener-numbers ≤ length (now openers) ⌝ }
     ensures { λ r. ⌜ r ≡ openerAt (now (openers .entry)) i ⌝ }
 {
-    let at = i * 4;
+    let at = i * OPENER_NUMBERS;
     Opener {
         sort: tables::sort_of(openers[at]),
         event: wide(openers[at + 1]),
@@ -269,12 +303,12 @@ pub fn opener_at(openers: &[u32], i: usize) -> Opener
 
 // One more opener on the first n. What lies behind it is open.
 pub fn push_opener(openers: &mut [u32], n: usize, o: Opener)
-    requires { ⌜ n * 4 + 4 ≤ length (now openers) ⌝ }
+    requires { ⌜ n * opener-numbers + opener-numbers ≤ length (now openers) ⌝ }
     requires { ⌜ o .event < 2 ^ 32 ⌝ }
     requires { ⌜ o .span < 2 ^ 32 ⌝ }
     ensures { λ _. ⌜ opens (n + 1) (now (openers .exit)) ≡ o ∷ opens n (now (openers .entry)) ⌝ }
 {
-    let at = n * 4;
+    let at = n * OPENER_NUMBERS;
     let sort = o.sort;
     openers[at] = tables::number_of(sort);
     openers[at + 1] = o.event as u32;
@@ -282,12 +316,12 @@ pub fn push_opener(openers: &mut [u32], n: usize, o: Opener)
     openers[at + 3] = 0;
 }
 
-// The newest of the first n openers that a mark closes. Mark 0 closes none.
+// The newest of the first n openers that a mark closes. The mark `NONE` closes none.
 pub fn seek(openers: &[u32], n: usize, closes: u32) -> Found
-    requires { ⌜ n * 4 ≤ length (now openers) ⌝ }
+    requires { ⌜ n * opener-numbers ≤ length (now openers) ⌝ }
     ensures { λ r. ⌜ r ≡ place (sought closes (opens n (now (openers .entry)))) ⌝ }
 {
-    if closes == 0 {
+    if closes == closer::NONE {
         return Found::Nothing;
     }
     let mut i = n;
@@ -296,7 +330,7 @@ pub fn seek(openers: &[u32], n: usize, closes: u32) -> Found
             break Found::Nothing;
         }
         i -= 1;
-        if tables::closed_by(tables::sort_of(openers[i * 4])) == closes {
+        if tables::closed_by(tables::sort_of(openers[i * OPENER_NUMBERS])) == closes {
             break Found::At(i);
         }
     }

@@ -1,5 +1,5 @@
 -- Scans ahead (document 01, "Scans ahead"): each over the bytes from the place behind what opens. The answer is the length up to what
--- closes, or nothing. Djot's rules on autolinks, symbols, footnote references and raw inlines are told by them.
+-- closes, or nothing. Djot's rules on autolinks, symbols, footnote references and raw inlines are stated by them.
 use Prim.Native.Nat.{ℕ}
 use Prim.Native.Char.{code}
 use mathlib.Core.List.{List, [], _∷_}

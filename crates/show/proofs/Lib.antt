@@ -1,3 +1,2 @@
 pub mod Splitting
-pub mod ReadLinesKinds
-pub mod ReadLinesReads
+pub mod Twin

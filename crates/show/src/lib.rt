@@ -2,15 +2,30 @@
 ghost use mathlib.Core.Path.{_≡_};
 ghost use Prim.Native.Nat.{_/_, _≤_, min};
 ghost use lib.ListN.{length, take};
+ghost use Rattle.reading.specs.Events.{event-numbers};
 ghost use Rattle.reading.specs.Questions.{outcome};
-ghost use Rattle.reader.specs.Telling.{lent, told};
+ghost use Rattle.outcome.specs.Outcomes.{rooms-of, outcome-of};
 ghost use Rattle.show.specs.Lines.{text-lines};
 use reading::Answer;
+use reading::EVENT_NUMBERS;
 use reading::Line;
+use reading::OPENER_NUMBERS;
+use reading::QUEUE_NUMBERS;
+
+// The program's input in bytes, and its rooms.
+const BYTES: usize = 1000;
+
+const EVENT_ROOM: usize = (BYTES + 1) * EVENT_NUMBERS;
+
+const QUEUE_ROOM: usize = (2 * BYTES + 1) * QUEUE_NUMBERS;
+
+const OPENER_ROOM: usize = BYTES * OPENER_NUMBERS;
+
+const LABEL_ROOM: usize = 65536;
 
 // Lines from the front of a room, and how many there are.
 struct Split {
-    lines: [Line; 1000],
+    lines: [Line; BYTES],
     count: usize,
 }
 
@@ -20,7 +35,7 @@ fn split_lines(text: &[u8]) -> Split
     ensures { λ r. ⌜ r .count ≡ length (text-lines (now (text .entry))) ⌝ }
     ensures { λ r. ⌜ take (r .count) (r .lines) ≡ text-lines (now (text .entry)) ⌝ }
 {
-    let mut lines = [Line { start: 0, end: 0 }; 1000];
+    let mut lines = [Line { start: 0, end: 0 }; BYTES];
     let mut n = 0;
     let mut from = 0;
     let mut i = 0;
@@ -61,9 +76,13 @@ fn write_line(numbers: &[u32]) {
 
 // How many of the counted events a room of so many numbers holds.
 fn held(count: usize, room: usize) -> usize
-    ensures { λ r. ⌜ r ≡ min count (room / 7) ⌝ }
+    ensures { λ r. ⌜ r ≡ min count (room / event-numbers) ⌝ }
 {
-    if count < room / 7 { count } else { room / 7 }
+    if count < room / EVENT_NUMBERS {
+        count
+    } else {
+        room / EVENT_NUMBERS
+    }
 }
 
 // Events from the front of their room, a line each.
@@ -71,8 +90,8 @@ fn write_events(events: &[u32], count: usize) {
     let n = held(count, events.len());
     let mut i = 0;
     while i < n {
-        let at = i * 7;
-        let next = at + 7;
+        let at = i * EVENT_NUMBERS;
+        let next = at + EVENT_NUMBERS;
         write_line(&events[at..next]);
         i += 1;
     }
@@ -86,7 +105,7 @@ fn write_answer(answer: Answer) {
 // Reads the first n lines of a room, in reading 0.
 fn read_lines(
     text: &[u8],
-    lines: [Line; 1000],
+    lines: [Line; BYTES],
     n: usize,
     events: &mut [u32],
     queue: &mut [u32],
@@ -94,20 +113,20 @@ fn read_lines(
     labels: &mut [u8],
 ) -> Answer
     requires { ⌜ n ≤ 1000 ⌝ }
-    ensures { λ r. ⌜ told r (now (events .exit)) (now (queue .exit)) (now (openers .exit)) (now (labels .exit)) ≡ outcome (now (text .entry))
-        (take n lines) 0 (lent (now (events .entry)) (now (queue .entry)) (now (openers .entry)) (now (labels .entry))) ⌝ }
+    ensures { λ r. ⌜ outcome-of r (now (events .exit)) (now (queue .exit)) (now (openers .exit)) (now (labels .exit)) ≡ outcome (now (text .entry))
+        (take n lines) 0 (rooms-of (now (events .entry)) (now (queue .entry)) (now (openers .entry)) (now (labels .entry))) ⌝ }
 {
     records::read(text, &lines[..n], 0, events, queue, openers, labels)
 }
 
 // Reads the lines of a text, in the rooms of the program.
-fn show_lines(text: &[u8], lines: [Line; 1000], n: usize)
+fn show_lines(text: &[u8], lines: [Line; BYTES], n: usize)
     requires { ⌜ n ≤ 1000 ⌝ }
 {
-    let mut events = [0u32; 7007];
-    let mut queue = [0u32; 16008];
-    let mut openers = [0u32; 4000];
-    let mut labels = [0u8; 65536];
+    let mut events = [0u32; EVENT_ROOM];
+    let mut queue = [0u32; QUEUE_ROOM];
+    let mut openers = [0u32; OPENER_ROOM];
+    let mut labels = [0u8; LABEL_ROOM];
     let answer = read_lines(
         text,
         lines,
@@ -132,9 +151,9 @@ fn show(text: &[u8])
 
 // At most 1,000 bytes of standard input are a sheet.
 pub fn show_input() {
-    let mut text = [0u8; 1001];
+    let mut text = [0u8; BYTES + 1];
     let n = io::read_full(0, &mut text);
-    if 1000 < n {
+    if BYTES < n {
         io::write_all(1, b"input over 1000 bytes\n");
     } else {
         show(&text[..n]);

@@ -9,6 +9,7 @@ use lib.ListN.{List·getD-eq-default}
 use Rattle.classes.specs.Classes.{among}
 use Rattle.reading.specs.declared.Sort.{Sort}
 use Rattle.reading.specs.declared.Sort.the-variants as sort
+use Rattle.reading.specs.Closers as closer
 use Rattle.tables.specs.Tables.{sorts, number, sort-at}
 
 -- a sort is that of its number
@@ -60,7 +61,7 @@ missed N (k ∷ ks) n h = let r = missed (N × (n ≡ k → ⊥)) ks n h in (r .
 
 -- the marks that can open and close
 abbrev pub marks : List ℕ
-marks = 3 ∷ 5 ∷ 7 ∷ 9 ∷ 14 ∷ 15 ∷ []
+marks = closer.asterisk ∷ closer.underscore ∷ closer.caret ∷ closer.tilde ∷ closer.quote1 ∷ closer.quote2 ∷ []
 
 pub one-way : (n : ℕ) → Missed (Unit {0}) marks n → among marks n ≡ false
 one-way n h = missed (Unit {0}) marks n h .1

@@ -1,7 +1,9 @@
 // What tokens and openers are to the parser: each a flat `match`, proved equal to the tables of the definition. Kinds of events, containers and
-// closing marks are numbers (`Events.antt` and `Tokens.antt` of `reading`).
+// closing marks are the numbers that `reading` names.
 ghost use mathlib.Core.Path.{_≡_};
 ghost use Rattle.reading.specs.Containers;
+ghost use Rattle.reading.specs.Closers as closers;
+ghost use Rattle.reading.specs.Events.{str};
 ghost use Rattle.reading.specs.Tokens;
 ghost use Rattle.reading.specs.Tokens.{closed-by, two-way, may-be-empty, is-single, closing-of, link-sort};
 ghost use Rattle.reading.specs.Tokens.{role-of, opens-a, is-run, is-format, is-caret};
@@ -17,6 +19,9 @@ use reading::Pair;
 use reading::Role;
 use reading::Sort;
 use reading::Target;
+use reading::closer;
+use reading::container;
+use reading::kind;
 
 // The bracket that a `]` takes along, if it does: whether it is that of an inline link.
 pub enum Taking {
@@ -24,30 +29,30 @@ pub enum Taking {
     Alone,
 }
 
-// The mark that closes an opener; no opener has 0.
+// The mark that closes an opener; no opener has none.
 pub fn closed_by(s: Sort) -> u32
     ensures { λ r. ⌜ r ≡ closed-by s ⌝ }
 {
     match s {
-        Sort::Span => 1,
-        Sort::Image => 1,
-        Sort::Strong => 3,
-        Sort::BraceStrong => 4,
-        Sort::Emphasis => 5,
-        Sort::BraceEmphasis => 6,
-        Sort::Superscript => 7,
-        Sort::BraceSuperscript => 8,
-        Sort::Subscript => 9,
-        Sort::BraceSubscript => 10,
-        Sort::Mark => 11,
-        Sort::Delete => 12,
-        Sort::Insert => 13,
-        Sort::SingleQuoted => 14,
-        Sort::DoubleQuoted => 15,
-        Sort::ReferenceLink => 1,
-        Sort::ReferenceImage => 1,
-        Sort::InlineLink => 2,
-        Sort::InlineImage => 2,
+        Sort::Span => closer::BRACKET,
+        Sort::Image => closer::BRACKET,
+        Sort::Strong => closer::ASTERISK,
+        Sort::BraceStrong => closer::BRACE_ASTERISK,
+        Sort::Emphasis => closer::UNDERSCORE,
+        Sort::BraceEmphasis => closer::BRACE_UNDERSCORE,
+        Sort::Superscript => closer::CARET,
+        Sort::BraceSuperscript => closer::BRACE_CARET,
+        Sort::Subscript => closer::TILDE,
+        Sort::BraceSubscript => closer::BRACE_TILDE,
+        Sort::Mark => closer::BRACE_EQUAL,
+        Sort::Delete => closer::BRACE_HYPHEN,
+        Sort::Insert => closer::BRACE_PLUS,
+        Sort::SingleQuoted => closer::QUOTE1,
+        Sort::DoubleQuoted => closer::QUOTE2,
+        Sort::ReferenceLink => closer::BRACKET,
+        Sort::ReferenceImage => closer::BRACKET,
+        Sort::InlineLink => closer::PAREN,
+        Sort::InlineImage => closer::PAREN,
     }
 }
 
@@ -56,12 +61,12 @@ pub fn two_way(s: Sort) -> bool
     ensures { λ r. ⌜ r ≡ two-way s ⌝ }
 {
     match closed_by(s) {
-        3 => true,
-        5 => true,
-        7 => true,
-        9 => true,
-        14 => true,
-        15 => true,
+        closer::ASTERISK => true,
+        closer::UNDERSCORE => true,
+        closer::CARET => true,
+        closer::TILDE => true,
+        closer::QUOTE1 => true,
+        closer::QUOTE2 => true,
         _ => false,
     }
 }
@@ -70,14 +75,15 @@ pub fn two_way(s: Sort) -> bool
 pub fn may_be_empty(s: Sort) -> bool
     ensures { λ r. ⌜ r ≡ may-be-empty s ⌝ }
 {
-    closed_by(s) <= 2
+    let c = closed_by(s);
+    (c == closer::BRACKET) | (c == closer::PAREN)
 }
 
 // A single quote.
 pub fn is_single(s: Sort) -> bool
     ensures { λ r. ⌜ r ≡ is-single s ⌝ }
 {
-    closed_by(s) == 14
+    closed_by(s) == closer::QUOTE1
 }
 
 // The kind of the event of an opener that is not closed.
@@ -85,13 +91,13 @@ pub fn unclosed(s: Sort) -> u32
     ensures { λ r. ⌜ r ≡ Tokens.unclosed s ⌝ }
 {
     let c = closed_by(s);
-    if c == 14 {
-        return 10;
+    if c == closer::QUOTE1 {
+        return kind::RIGHT_SINGLE_QUOTE;
     }
-    if c == 15 {
-        return 11;
+    if c == closer::QUOTE2 {
+        return kind::LEFT_DOUBLE_QUOTE;
     }
-    1
+    kind::STR
 }
 
 fn pair(first: u32, second: u32) -> DelimEventKind
@@ -121,23 +127,23 @@ pub fn closing_of(s: Sort) -> DelimEventKind
     match s {
         Sort::Span => DelimEventKind::Span(false),
         Sort::Image => DelimEventKind::Span(true),
-        Sort::Strong => pair(38, 70),
-        Sort::BraceStrong => pair(38, 70),
-        Sort::Emphasis => pair(37, 69),
-        Sort::BraceEmphasis => pair(37, 69),
-        Sort::Superscript => pair(34, 66),
-        Sort::BraceSuperscript => pair(34, 66),
-        Sort::Subscript => pair(33, 65),
-        Sort::BraceSubscript => pair(33, 65),
-        Sort::Mark => pair(39, 71),
-        Sort::Delete => pair(36, 68),
-        Sort::Insert => pair(35, 67),
-        Sort::SingleQuoted => pair(9, 10),
-        Sort::DoubleQuoted => pair(11, 12),
-        Sort::ReferenceLink => link(12, false),
-        Sort::ReferenceImage => link(13, false),
-        Sort::InlineLink => link(14, true),
-        Sort::InlineImage => link(15, true),
+        Sort::Strong => pair(kind::ENTER_STRONG, kind::EXIT_STRONG),
+        Sort::BraceStrong => pair(kind::ENTER_STRONG, kind::EXIT_STRONG),
+        Sort::Emphasis => pair(kind::ENTER_EMPHASIS, kind::EXIT_EMPHASIS),
+        Sort::BraceEmphasis => pair(kind::ENTER_EMPHASIS, kind::EXIT_EMPHASIS),
+        Sort::Superscript => pair(kind::ENTER_SUPERSCRIPT, kind::EXIT_SUPERSCRIPT),
+        Sort::BraceSuperscript => pair(kind::ENTER_SUPERSCRIPT, kind::EXIT_SUPERSCRIPT),
+        Sort::Subscript => pair(kind::ENTER_SUBSCRIPT, kind::EXIT_SUBSCRIPT),
+        Sort::BraceSubscript => pair(kind::ENTER_SUBSCRIPT, kind::EXIT_SUBSCRIPT),
+        Sort::Mark => pair(kind::ENTER_MARK, kind::EXIT_MARK),
+        Sort::Delete => pair(kind::ENTER_DELETE, kind::EXIT_DELETE),
+        Sort::Insert => pair(kind::ENTER_INSERT, kind::EXIT_INSERT),
+        Sort::SingleQuoted => pair(kind::LEFT_SINGLE_QUOTE, kind::RIGHT_SINGLE_QUOTE),
+        Sort::DoubleQuoted => pair(kind::LEFT_DOUBLE_QUOTE, kind::RIGHT_DOUBLE_QUOTE),
+        Sort::ReferenceLink => link(container::REFERENCE_LINK, false),
+        Sort::ReferenceImage => link(container::REFERENCE_IMAGE, false),
+        Sort::InlineLink => link(container::INLINE_LINK, true),
+        Sort::InlineImage => link(container::INLINE_IMAGE, true),
     }
 }
 
@@ -157,7 +163,7 @@ pub fn link_sort(image: bool, inline: bool) -> Sort
     Sort::ReferenceLink
 }
 
-// What opens `opens`, closes the mark `closes` (0 for none), and alone is an event of the kind `alone`.
+// What opens `opens`, closes the mark `closes`, and alone is an event of the kind `alone`.
 fn other(opens: Opens, closes: u32, alone: u32) -> Role
     ensures { λ r. ⌜ r ≡ otherOf opens closes alone ⌝ }
 {
@@ -171,23 +177,23 @@ fn other(opens: Opens, closes: u32, alone: u32) -> Role
 
 // What opens and closes nothing.
 fn plain(kind: u32) -> Role
-    ensures { λ r. ⌜ r ≡ otherOf Opens.None 0 kind ⌝ }
+    ensures { λ r. ⌜ r ≡ otherOf Opens.None closers.none kind ⌝ }
 {
-    other(Opens::None, 0, kind)
+    other(Opens::None, closer::NONE, kind)
 }
 
 // What opens, closes `closes`, and alone is Str.
 fn opening(s: Sort, closes: u32) -> Role
-    ensures { λ r. ⌜ r ≡ otherOf (Opens.Some s) closes 1 ⌝ }
+    ensures { λ r. ⌜ r ≡ otherOf (Opens.Some s) closes str ⌝ }
 {
-    other(Opens::Some(s), closes, 1)
+    other(Opens::Some(s), closes, kind::STR)
 }
 
 // What only closes, and alone is Str.
 fn closing(closes: u32) -> Role
-    ensures { λ r. ⌜ r ≡ otherOf Opens.None closes 1 ⌝ }
+    ensures { λ r. ⌜ r ≡ otherOf Opens.None closes str ⌝ }
 {
-    other(Opens::None, closes, 1)
+    other(Opens::None, closes, kind::STR)
 }
 
 fn open_role(d: Delimiter) -> Role
@@ -195,16 +201,24 @@ fn open_role(d: Delimiter) -> Role
 {
     match d {
         Delimiter::Brace => Role::Brace,
-        Delimiter::BraceAsterisk => opening(Sort::BraceStrong, 0),
-        Delimiter::BraceCaret => opening(Sort::BraceSuperscript, 0),
-        Delimiter::BraceEqual => opening(Sort::Mark, 0),
-        Delimiter::BraceHyphen => opening(Sort::Delete, 0),
-        Delimiter::BracePlus => opening(Sort::Insert, 0),
-        Delimiter::BraceTilde => opening(Sort::BraceSubscript, 0),
-        Delimiter::BraceUnderscore => opening(Sort::BraceEmphasis, 0),
+        Delimiter::BraceAsterisk => opening(Sort::BraceStrong, closer::NONE),
+        Delimiter::BraceCaret => opening(Sort::BraceSuperscript, closer::NONE),
+        Delimiter::BraceEqual => opening(Sort::Mark, closer::NONE),
+        Delimiter::BraceHyphen => opening(Sort::Delete, closer::NONE),
+        Delimiter::BracePlus => opening(Sort::Insert, closer::NONE),
+        Delimiter::BraceTilde => opening(Sort::BraceSubscript, closer::NONE),
+        Delimiter::BraceUnderscore => opening(Sort::BraceEmphasis, closer::NONE),
         Delimiter::Bracket => Role::Bracket,
-        Delimiter::BraceQuote1 => other(Opens::Some(Sort::SingleQuoted), 0, 9),
-        Delimiter::BraceQuote2 => other(Opens::Some(Sort::DoubleQuoted), 0, 11),
+        Delimiter::BraceQuote1 => other(
+            Opens::Some(Sort::SingleQuoted),
+            closer::NONE,
+            kind::LEFT_SINGLE_QUOTE,
+        ),
+        Delimiter::BraceQuote2 => other(
+            Opens::Some(Sort::DoubleQuoted),
+            closer::NONE,
+            kind::LEFT_DOUBLE_QUOTE,
+        ),
         Delimiter::Paren => Role::Paren,
     }
 }
@@ -213,18 +227,18 @@ fn close_role(d: Delimiter) -> Role
     ensures { λ r. ⌜ r ≡ role-of (Kind.Close d) ⌝ }
 {
     match d {
-        Delimiter::Brace => plain(1),
-        Delimiter::BraceAsterisk => closing(4),
-        Delimiter::BraceCaret => closing(8),
-        Delimiter::BraceEqual => closing(11),
-        Delimiter::BraceHyphen => closing(12),
-        Delimiter::BracePlus => closing(13),
-        Delimiter::BraceTilde => closing(10),
-        Delimiter::BraceUnderscore => closing(6),
-        Delimiter::Bracket => closing(1),
-        Delimiter::BraceQuote1 => other(Opens::None, 14, 10),
-        Delimiter::BraceQuote2 => other(Opens::None, 15, 12),
-        Delimiter::Paren => closing(2),
+        Delimiter::Brace => plain(kind::STR),
+        Delimiter::BraceAsterisk => closing(closer::BRACE_ASTERISK),
+        Delimiter::BraceCaret => closing(closer::BRACE_CARET),
+        Delimiter::BraceEqual => closing(closer::BRACE_EQUAL),
+        Delimiter::BraceHyphen => closing(closer::BRACE_HYPHEN),
+        Delimiter::BracePlus => closing(closer::BRACE_PLUS),
+        Delimiter::BraceTilde => closing(closer::BRACE_TILDE),
+        Delimiter::BraceUnderscore => closing(closer::BRACE_UNDERSCORE),
+        Delimiter::Bracket => closing(closer::BRACKET),
+        Delimiter::BraceQuote1 => other(Opens::None, closer::QUOTE1, kind::RIGHT_SINGLE_QUOTE),
+        Delimiter::BraceQuote2 => other(Opens::None, closer::QUOTE2, kind::RIGHT_DOUBLE_QUOTE),
+        Delimiter::Paren => closing(closer::PAREN),
     }
 }
 
@@ -232,15 +246,23 @@ fn symbol_role(y: Symbol) -> Role
     ensures { λ r. ⌜ r ≡ role-of (Kind.Sym y) ⌝ }
 {
     match y {
-        Symbol::Asterisk => opening(Sort::Strong, 3),
-        Symbol::Caret => opening(Sort::Superscript, 7),
-        Symbol::ExclaimBracket => opening(Sort::Image, 0),
+        Symbol::Asterisk => opening(Sort::Strong, closer::ASTERISK),
+        Symbol::Caret => opening(Sort::Superscript, closer::CARET),
+        Symbol::ExclaimBracket => opening(Sort::Image, closer::NONE),
         Symbol::Lt => Role::Lt,
-        Symbol::Pipe => plain(1),
-        Symbol::Quote1 => other(Opens::Some(Sort::SingleQuoted), 14, 10),
-        Symbol::Quote2 => other(Opens::Some(Sort::DoubleQuoted), 15, 12),
-        Symbol::Tilde => opening(Sort::Subscript, 9),
-        Symbol::Underscore => opening(Sort::Emphasis, 5),
+        Symbol::Pipe => plain(kind::STR),
+        Symbol::Quote1 => other(
+            Opens::Some(Sort::SingleQuoted),
+            closer::QUOTE1,
+            kind::RIGHT_SINGLE_QUOTE,
+        ),
+        Symbol::Quote2 => other(
+            Opens::Some(Sort::DoubleQuoted),
+            closer::QUOTE2,
+            kind::RIGHT_DOUBLE_QUOTE,
+        ),
+        Symbol::Tilde => opening(Sort::Subscript, closer::TILDE),
+        Symbol::Underscore => opening(Sort::Emphasis, closer::UNDERSCORE),
         Symbol::Colon => Role::Colon,
     }
 }
@@ -260,11 +282,11 @@ pub fn role_of(kind: Kind) -> Role
     ensures { λ r. ⌜ r ≡ role-of kind ⌝ }
 {
     match kind {
-        Kind::Text => plain(1),
-        Kind::Newline => plain(2),
-        Kind::Nbsp => plain(5),
-        Kind::Hardbreak => plain(3),
-        Kind::Escape => plain(4),
+        Kind::Text => plain(kind::STR),
+        Kind::Newline => plain(kind::SOFTBREAK),
+        Kind::Nbsp => plain(kind::NBSP),
+        Kind::Hardbreak => plain(kind::HARDBREAK),
+        Kind::Escape => plain(kind::ESCAPE),
         Kind::Open(d) => open_role(d),
         Kind::Close(d) => close_role(d),
         Kind::Sym(y) => symbol_role(y),
@@ -300,14 +322,14 @@ fn opens_a(c: u32, r: Role) -> bool
 pub fn is_format(r: Role) -> bool
     ensures { λ b. ⌜ b ≡ is-format r ⌝ }
 {
-    opens_a(11, r)
+    opens_a(closer::BRACE_EQUAL, r)
 }
 
 // `^`
 pub fn is_caret(r: Role) -> bool
     ensures { λ b. ⌜ b ≡ is-caret r ⌝ }
 {
-    opens_a(7, r)
+    opens_a(closer::CARET, r)
 }
 
 // The bracket that a `]` takes along.

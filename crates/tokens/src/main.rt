@@ -105,11 +105,12 @@ fn first_line(text: &[u8]) -> &[u8] {
 
 // A token is at least one byte, so there are at most as many as bytes.
 fn write_tokens(line: &[u8]) {
+    let flags = classes::classes();
     let mut c = Cursor::new(0, false);
     let mut left = line.len();
     while 0 < left {
         let start = c.pos;
-        let r = lexer::next_token(line, c);
+        let r = lexer::next_token(line, c, &flags);
         let found = r.token;
         let Next::Some(t) = found else {
             return;

@@ -16,7 +16,8 @@ use Rattle.reading.specs.declared.Last.{Last}
 use Rattle.reading.specs.declared.Verbatim.{Verbatim}
 use Rattle.reading.specs.declared.Inside.{Inside}
 use Rattle.reading.specs.declared.Inside.the-variants as inside
-use Rattle.reading.specs.Events.{Home, place, in-text, becomes, exit-of, enter, raw-format}
+use Rattle.reading.specs.declared.Home.{Home}
+use Rattle.reading.specs.Events.{place, in-text, becomes, exit-of, enter, raw-format}
 use Rattle.reading.specs.Machine.{Turn, rulesOf, amend, puts, no-str, with-inside}
 use Rattle.reading.specs.Verbatim.{flagged, kept, nothing, format-ahead, closed-with, closes-verbatim, ended-at}
 use Rattle.reading.proofs.Backticks.{format-within}
@@ -24,24 +25,13 @@ use Rattle.rooms.specs.declared.Parser.{Parser}
 use Rattle.rooms.specs.declared.Margin.{Margin}
 use Rattle.rooms.specs.declared.Span.{Span}
 use Rattle.rooms.specs.Records.{eventAt, events}
-use Rattle.rooms.specs.Standing.{viewed, here, staying, moved, insideOf, Changed, Fits}
+use Rattle.rooms.specs.Standing.{with-events, viewed, here, staying, moved, insideOf, Changed, Fits}
 use Rattle.rooms.proofs.Rows.{rows-length, rows-at, rows-cut}
 use Rattle.verbatim.specs.Opened.{Opened, OpenedBy, headed}
 
 -- the parser with n events
 abbrev pub cut-to : Parser → ℕ → Parser
-cut-to p n =
-    record {
-      cursor = p .cursor;
-      events = n;
-      openers = p .openers;
-      inside = p .inside;
-      last = p .last;
-      labels = p .labels;
-      fits = p .fits;
-      links = p .links;
-      refused = p .refused;
-    }
+cut-to p n = with-events p n (p .last)
 
 module _ (w : Verbatim) (p : Parser) (q o : List ℕ) (low : w .event < p .events) (n : ℕ) (few : n ≤ p .events) where
   -- the exit behind the first n events

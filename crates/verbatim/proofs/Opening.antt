@@ -14,7 +14,8 @@ use Rattle.reading.specs.declared.Last.{Last}
 use Rattle.reading.specs.declared.Verbatim.{Verbatim}
 use Rattle.reading.specs.declared.Inside.{Inside}
 use Rattle.reading.specs.declared.Inside.the-variants as inside
-use Rattle.reading.specs.Events.{Home, place, nowhere, homed, shorter}
+use Rattle.reading.specs.declared.Home.{Home}
+use Rattle.reading.specs.Events.{place, nowhere, homed, shorter}
 use Rattle.reading.specs.Machine.{Turn, rulesOf, amend, amend-last, puts, no-str, with-inside}
 use Rattle.reading.specs.Verbatim.{flagged, taken, opened-as, opens-verbatim, moved-on, flag-of}
 use Rattle.reading.proofs.Choose.{choose}

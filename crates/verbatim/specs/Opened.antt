@@ -1,4 +1,4 @@
--- What a verbatim's functions ask of the rooms, and what they are told by beside the definition.
+-- What a verbatim's functions ask of the rooms, and what their contracts are stated in beside the definition.
 use Prim.Native.Nat.{ℕ, _-_, _≤_, _<_}
 use mathlib.Core.Path.{_≡_}
 use mathlib.Core.List.{List}
@@ -8,6 +8,7 @@ use lib.ListN.{take}
 use Rattle.reading.specs.declared.Verbatim.{Verbatim}
 use Rattle.reading.specs.declared.Inside.{Inside}
 use Rattle.reading.specs.declared.Inside.the-variants as inside
+use Rattle.reading.specs.Events.{enter-from, exit-from}
 use Rattle.reading.specs.Machine.{View, State}
 use Rattle.reading.specs.Reading.{begun, sheet}
 use Rattle.reading.specs.Verbatim.{exits}
@@ -21,8 +22,8 @@ use Rattle.verbatim.specs.declared.EventKind.the-variants.{Atom, Enter, 
 pub record Opened (w : Verbatim) (p : Parser) (q : List ℕ) : Type 0 where
   pub low : w .event < w .keep
   pub high : w .keep ≤ p .events
-  pub enters : 32 ≤ eventAt q (w .event) .kind
-  pub below : eventAt q (w .event) .kind < 64
+  pub enters : enter-from ≤ eventAt q (w .event) .kind
+  pub below : eventAt q (w .event) .kind < exit-from
 
 unfoldable pub OpenedBy : Inside → Parser → List ℕ → Type 0
 OpenedBy inside.No p q = Unit {0}
@@ -35,7 +36,7 @@ pub record Dollars (d n : ℕ) (q : List ℕ) : Type 0 where
 
 -- a kind taken apart
 unfoldable pub kindOf : ℕ → EventKind
-kindOf k = elim (ltb k 32) [ true ↦ Atom k | false ↦ elim (ltb k 64) [ true ↦ Enter (k - 32) | false ↦ Exit (k - 64) ] ]
+kindOf k = elim (ltb k enter-from) [ true ↦ Atom k | false ↦ elim (ltb k exit-from) [ true ↦ Enter (k - enter-from) | false ↦ Exit (k - exit-from) ] ]
 
 -- an exit behind the first n events
 abbrev pub headed : Verbatim → ℕ → ℕ → ℕ → State → State

@@ -3,10 +3,11 @@ ghost use mathlib.Core.Path.{_≡_};
 ghost use mathlib.Core.List.{List};
 ghost use Prim.Native.Nat.{ℕ, _+_, _*_, _≤_, _<_};
 ghost use lib.ListN.{length, take};
-ghost use Rattle.reading.specs.Events.{exit-of, shorter};
+ghost use Rattle.classes.specs.Classes.{Ruled};
+ghost use Rattle.reading.specs.Events.{exit-of, shorter, enter-from, exit-from, queue-numbers, largest};
 ghost use Rattle.reading.specs.Tokens.{role-of, is-run};
 ghost use Rattle.reading.specs.Machine.{rulesOf, amend-last};
-ghost use Rattle.reading.specs.Verbatim as said;
+ghost use Rattle.reading.specs.Verbatim as spec;
 ghost use Rattle.rooms.specs.Records.{eventAt, events};
 ghost use Rattle.rooms.specs.Standing.{viewed, here, Changed, Fits, Room, staying};
 ghost use Rattle.verbatim.specs.Opened.{Opened, OpenedBy, Dollars, Begun, kindOf, headed};
@@ -18,6 +19,8 @@ use reading::Inside;
 use reading::Last;
 use reading::Place;
 use reading::Verbatim;
+use reading::container;
+use reading::kind;
 use rooms::Margin;
 use rooms::Parser;
 use rooms::Span;
@@ -46,7 +49,7 @@ fn after(reading: u32, own: bool) -> bool
 
 // A cursor in verbatim, or out of it.
 fn flagged(c: Cursor, verbatim: bool) -> Cursor
-    ensures { λ r. ⌜ r ≡ said.flagged verbatim c ⌝ }
+    ensures { λ r. ⌜ r ≡ spec.flagged verbatim c ⌝ }
 {
     let mut out = c;
     out.verbatim = verbatim;
@@ -55,7 +58,7 @@ fn flagged(c: Cursor, verbatim: bool) -> Cursor
 
 // How many dollars the run that begins at a place takes.
 fn taken(l: Last, at: Place) -> u32
-    ensures { λ r. ⌜ r ≡ said.taken l (at .0) ⌝ }
+    ensures { λ r. ⌜ r ≡ spec.taken l (at .0) ⌝ }
 {
     let end = l.end;
     if end.0 == at.0 {
@@ -66,18 +69,18 @@ fn taken(l: Last, at: Place) -> u32
 
 // Verbatim, inline math, or display math.
 fn opened_as(dollars: u32) -> u32
-    ensures { λ r. ⌜ r ≡ said.opened-as dollars ⌝ }
+    ensures { λ r. ⌜ r ≡ spec.opened-as dollars ⌝ }
 {
     match dollars {
-        0 => 8,
-        1 => 10,
-        _ => 11,
+        0 => container::VERBATIM,
+        1 => container::INLINE_MATH,
+        _ => container::DISPLAY_MATH,
     }
 }
 
 // The dollars leave the newest event.
 fn leave(queue: &mut [u32], n: usize, dollars: u32)
-    requires { ⌜ n * 8 ≤ length (now queue) ⌝ }
+    requires { ⌜ n * queue-numbers ≤ length (now queue) ⌝ }
     requires { ⌜ Dollars dollars n (now queue) ⌝ }
     ensures { λ _. ⌜ events n (now (queue .exit)) ≡ amend-last (shorter dollars) (events n (now (queue .entry))) ⌝ }
 {
@@ -90,11 +93,11 @@ fn leave(queue: &mut [u32], n: usize, dollars: u32)
 // A run of backticks opens. Dollars directly before it leave their Str and join the enter's span.
 pub fn opens_verbatim(m: Margin, h: Span, p: Parser, queue: &mut [u32]) -> Parser
     requires { ⌜ h .from ≤ h .to ⌝ }
-    requires { ⌜ m .base + h .to ≤ 1048576 ⌝ }
+    requires { ⌜ m .base + h .to ≤ largest ⌝ }
     requires { ⌜ Room 1 p (now queue) ⌝ }
-    requires { ⌜ Dollars (said.taken (p .last) (m .base + h .from)) (p .events) (now queue) ⌝ }
-    requires { ⌜ said.taken (p .last) (m .base + h .from) ≤ m .base + h .from ⌝ }
-    ensures { λ r. ⌜ ((o line : List ℕ) → Changed p (now (queue .entry)) o r (now (queue .exit)) o (said.opens-verbatim (viewed m line) (here h p))) ⌝ }
+    requires { ⌜ Dollars (spec.taken (p .last) (m .base + h .from)) (p .events) (now queue) ⌝ }
+    requires { ⌜ spec.taken (p .last) (m .base + h .from) ≤ m .base + h .from ⌝ }
+    ensures { λ r. ⌜ ((o line : List ℕ) → Changed p (now (queue .entry)) o r (now (queue .exit)) o (spec.opens-verbatim (viewed m line) (here h p))) ⌝ }
 {
     let n = p.events;
     let last = p.last;
@@ -111,7 +114,7 @@ pub fn opens_verbatim(m: Margin, h: Span, p: Parser, queue: &mut [u32]) -> Parse
     };
     let start = Place(at.0 - dollars);
     let e = rooms::event_of(
-        32 + opened_as(dollars),
+        kind::ENTER + opened_as(dollars),
         start,
         atoms::place_at(m, h.to),
         atoms::nowhere(),
@@ -125,20 +128,20 @@ pub fn opens_verbatim(m: Margin, h: Span, p: Parser, queue: &mut [u32]) -> Parse
 fn kind_of(kind: u32) -> EventKind
     ensures { λ r. ⌜ r ≡ kindOf kind ⌝ }
 {
-    if kind < 32 {
+    if kind < kind::ENTER {
         return EventKind::Atom(kind);
     }
-    if kind < 64 {
-        return EventKind::Enter(kind - 32);
+    if kind < kind::EXIT {
+        return EventKind::Enter(kind - kind::ENTER);
     }
-    EventKind::Exit(kind - 64)
+    EventKind::Exit(kind - kind::EXIT)
 }
 
 // The event at the opener's place decides the exit.
 fn exit_of(queue: &[u32], w: Verbatim, start: Place, end: Place) -> Event
-    requires { ⌜ w .event * 8 + 8 ≤ length (now queue) ⌝ }
-    requires { ⌜ 32 ≤ eventAt (now queue) (w .event) .kind ⌝ }
-    requires { ⌜ eventAt (now queue) (w .event) .kind < 64 ⌝ }
+    requires { ⌜ w .event * queue-numbers + queue-numbers ≤ length (now queue) ⌝ }
+    requires { ⌜ enter-from ≤ eventAt (now queue) (w .event) .kind ⌝ }
+    requires { ⌜ eventAt (now queue) (w .event) .kind < exit-from ⌝ }
     ensures { λ r. ⌜ r ≡ exit-of (eventAt (now (queue .entry)) (w .event)) (start .0) (end .0) ⌝ }
 {
     let e = rooms::event_at(queue, w.event);
@@ -149,7 +152,7 @@ fn exit_of(queue: &[u32], w: Verbatim, start: Place, end: Place) -> Event
     let home_end = e.home_end;
     let link = e.link;
     Event {
-        kind: 64 + k,
+        kind: kind::EXIT + k,
         start: start,
         end: end,
         home: e.home,
@@ -175,7 +178,7 @@ fn exits(queue: &mut [u32], p: Parser, w: Verbatim, n: usize, start: Place, end:
 
 // How many events are kept on closing: the blanks behind a backtick run that is the last content are dropped.
 fn kept(p: Parser, w: Verbatim) -> usize
-    ensures { λ r. ⌜ ((q : List ℕ) → w .keep ≤ p .events → take r (events (p .events) q) ≡ said.kept w (events (p .events) q)) ⌝ }
+    ensures { λ r. ⌜ ((q : List ℕ) → w .keep ≤ p .events → take r (events (p .events) q) ≡ spec.kept w (events (p .events) q)) ⌝ }
     ensures { λ r. ⌜ (w .keep ≤ p .events → r ≤ p .events) ⌝ }
 {
     if w.run {
@@ -185,16 +188,17 @@ fn kept(p: Parser, w: Verbatim) -> usize
 }
 
 // The raw format behind a closing run, if the token there is `{=`.
-fn format_ahead(line: &[u8], to: usize, next: Next) -> Ahead
+fn format_ahead(line: &[u8], to: usize, next: Next, flags: &[u8; 256]) -> Ahead
     requires { ⌜ to ≤ length (now line) ⌝ }
-    ensures { λ r. ⌜ ((m : Margin) → r ≡ said.format-ahead (viewed m (now (line .entry))) to next) ⌝ }
+    requires { ⌜ Ruled (now flags) ⌝ }
+    ensures { λ r. ⌜ ((m : Margin) → r ≡ spec.format-ahead (viewed m (now (line .entry))) to next) ⌝ }
 {
     let Next::Some(t) = next else {
         return Ahead::None;
     };
     let kind = t.kind;
     if tables::is_format(tables::role_of(kind)) {
-        return scan::ahead_raw_format(line, to + 2);
+        return scan::ahead_raw_format(line, to + 2, flags);
     }
     Ahead::None
 }
@@ -202,10 +206,10 @@ fn format_ahead(line: &[u8], to: usize, next: Next) -> Ahead
 // A run closes, and no raw format follows.
 fn closes_plain(m: Margin, h: Span, c: Cursor, w: Verbatim, p: Parser, queue: &mut [u32]) -> Parser
     requires { ⌜ h .from ≤ h .to ⌝ }
-    requires { ⌜ m .base + h .to ≤ 1048576 ⌝ }
+    requires { ⌜ m .base + h .to ≤ largest ⌝ }
     requires { ⌜ Opened w p (now queue) ⌝ }
     requires { ⌜ Room 1 p (now queue) ⌝ }
-    ensures { λ r. ⌜ ((o line : List ℕ) → Changed p (now (queue .entry)) o r (now (queue .exit)) o (said.closed-with (viewed m line) (here h p) c w Ahead.None)) ⌝ }
+    ensures { λ r. ⌜ ((o line : List ℕ) → Changed p (now (queue .entry)) o r (now (queue .exit)) o (spec.closed-with (viewed m line) (here h p) c w Ahead.None)) ⌝ }
 {
     let n = kept(p, w);
     let out = exits(
@@ -222,14 +226,19 @@ fn closes_plain(m: Margin, h: Span, c: Cursor, w: Verbatim, p: Parser, queue: &m
 // A run closes with a raw format of n bytes behind it: the verbatim becomes a raw inline, and the exit goes to behind its `}`.
 fn closes_raw(m: Margin, h: Span, n: usize, w: Verbatim, p: Parser, queue: &mut [u32]) -> Parser
     requires { ⌜ h .from ≤ h .to ⌝ }
-    requires { ⌜ m .base + h .to + 2 + n + 1 ≤ 1048576 ⌝ }
+    requires { ⌜ m .base + h .to + 2 + n + 1 ≤ largest ⌝ }
     requires { ⌜ Opened w p (now queue) ⌝ }
     requires { ⌜ Room 1 p (now queue) ⌝ }
-    ensures { λ r. ⌜ ((o line : List ℕ) (c : Cursor) → Changed p (now (queue .entry)) o r (now (queue .exit)) o (said.closed-with
+    ensures { λ r. ⌜ ((o line : List ℕ) (c : Cursor) → Changed p (now (queue .entry)) o r (now (queue .exit)) o (spec.closed-with
         (viewed m line) (here h p) c w (Ahead.Some n))) ⌝ }
 {
     let a = h.to + 2;
-    rooms::set_kind(queue, w.event, 41, atoms::in_text(m, a, a + n));
+    rooms::set_kind(
+        queue,
+        w.event,
+        kind::ENTER_RAW_FORMAT,
+        atoms::in_text(m, a, a + n),
+    );
     let keep = kept(p, w);
     let out = exits(
         queue,
@@ -251,29 +260,32 @@ fn closes_verbatim(
     reading: u32,
     p: Parser,
     queue: &mut [u32],
+    flags: &[u8; 256],
 ) -> Parser
     requires { ⌜ Fits (now line) m h ⌝ }
     requires { ⌜ Opened w p (now queue) ⌝ }
     requires { ⌜ Room 1 p (now queue) ⌝ }
-    ensures { λ r. ⌜ ((o : List ℕ) → Changed p (now (queue .entry)) o r (now (queue .exit)) o (said.closes-verbatim (rulesOf reading)
+    requires { ⌜ Ruled (now flags) ⌝ }
+    ensures { λ r. ⌜ ((o : List ℕ) → Changed p (now (queue .entry)) o r (now (queue .exit)) o (spec.closes-verbatim (rulesOf reading)
         (viewed m (now (line .entry))) (here h p) w)) ⌝ }
 {
     let c = flagged(p.cursor, after(reading, w.here));
-    let peeked = c.peek(line);
+    let peeked = lexer::peek_token(line, c, flags);
     let behind = peeked.cursor;
     let next = peeked.token;
-    match format_ahead(line, h.to, next) {
+    match format_ahead(line, h.to, next, flags) {
         Ahead::Some(n) => closes_raw(m, h, n, w, p, queue),
         Ahead::None => closes_plain(m, h, behind, w, p, queue),
     }
 }
 
-fn all_blank(s: &[u8]) -> bool
-    ensures { λ r. ⌜ r ≡ said.all-blank (now (s .entry)) ⌝ }
+fn all_blank(s: &[u8], flags: &[u8; 256]) -> bool
+    requires { ⌜ Ruled (now flags) ⌝ }
+    ensures { λ r. ⌜ r ≡ spec.all-blank (now (s .entry)) ⌝ }
 {
     let mut i = 0;
     while i < s.len() {
-        if !classes::is_blank(s[i]) {
+        if !classes::is_blank(s[i], flags) {
             return false;
         }
         i += 1;
@@ -283,7 +295,7 @@ fn all_blank(s: &[u8]) -> bool
 
 // A run of another length.
 fn another_run(w: Verbatim, next: Next) -> bool
-    ensures { λ r. ⌜ r ≡ said.another-run w next ⌝ }
+    ensures { λ r. ⌜ r ≡ spec.another-run w next ⌝ }
 {
     let Next::Some(t) = next else {
         return false;
@@ -305,13 +317,13 @@ fn content(
     requires { ⌜ Fits (now line) m h ⌝ }
     requires { ⌜ Room 1 p (now queue) ⌝ }
     ensures { λ r. ⌜ ((o : List ℕ) (t : Token) → run ≡ is-run (role-of (t .kind)) → Changed p (now (queue .entry)) o r (now (queue .exit)) o
-        (staying p (said.content (viewed m (now (line .entry))) (here h p) t w))) ⌝ }
+        (staying p (spec.content (viewed m (now (line .entry))) (here h p) t w))) ⌝ }
 {
     let mut seen = w;
     seen.seen = true;
     seen.run = run;
     seen.keep = p.events + 1;
-    let out = atoms::put(line, m, 1, h, p, queue);
+    let out = atoms::put(line, m, kind::STR, h, p, queue);
     rooms::inside(out, Inside::Verbatim(seen))
 }
 
@@ -323,21 +335,23 @@ fn blank_content(
     w: Verbatim,
     p: Parser,
     queue: &mut [u32],
+    flags: &[u8; 256],
 ) -> Parser
     requires { ⌜ Fits (now line) m h ⌝ }
     requires { ⌜ Room 1 p (now queue) ⌝ }
-    ensures { λ r. ⌜ ((o : List ℕ) → Changed p (now (queue .entry)) o r (now (queue .exit)) o (said.blank-content (viewed m (now (line .entry))) (here h p) w)) ⌝ }
+    requires { ⌜ Ruled (now flags) ⌝ }
+    ensures { λ r. ⌜ ((o : List ℕ) → Changed p (now (queue .entry)) o r (now (queue .exit)) o (spec.blank-content (viewed m (now (line .entry))) (here h p) w)) ⌝ }
 {
     if w.seen {
-        return atoms::put(line, m, 1, h, p, queue);
+        return atoms::put(line, m, kind::STR, h, p, queue);
     }
-    let peeked = p.cursor.peek(line);
+    let peeked = lexer::peek_token(line, p.cursor, flags);
     let next = peeked.token;
     let out = rooms::moved(p, peeked.cursor);
     if another_run(w, next) {
         return out;
     }
-    atoms::put(line, m, 1, h, out, queue)
+    atoms::put(line, m, kind::STR, h, out, queue)
 }
 
 // A token inside a verbatim.
@@ -350,22 +364,24 @@ pub fn in_verbatim(
     reading: u32,
     p: Parser,
     queue: &mut [u32],
+    flags: &[u8; 256],
 ) -> Parser
     requires { ⌜ Fits (now line) m h ⌝ }
     requires { ⌜ Opened w p (now queue) ⌝ }
     requires { ⌜ Room 1 p (now queue) ⌝ }
-    ensures { λ r. ⌜ ((o : List ℕ) → Changed p (now (queue .entry)) o r (now (queue .exit)) o (said.in-verbatim (rulesOf reading) (viewed m
+    requires { ⌜ Ruled (now flags) ⌝ }
+    ensures { λ r. ⌜ ((o : List ℕ) → Changed p (now (queue .entry)) o r (now (queue .exit)) o (spec.in-verbatim (rulesOf reading) (viewed m
         (now (line .entry))) (here h p) t w)) ⌝ }
 {
     let kind = t.kind;
     let run = tables::is_run(tables::role_of(kind));
     if run & (h.to - h.from == w.len) {
-        return closes_verbatim(line, m, h, w, reading, p, queue);
+        return closes_verbatim(line, m, h, w, reading, p, queue, flags);
     }
     let from = h.from;
     let to = h.to;
-    if all_blank(&line[from..to]) {
-        return blank_content(line, m, h, w, p, queue);
+    if all_blank(&line[from..to], flags) {
+        return blank_content(line, m, h, w, p, queue, flags);
     }
     content(line, m, h, run, w, p, queue)
 }
@@ -390,7 +406,7 @@ pub fn begun(reading: u32, p: Parser) -> Parser
 pub fn ended_at(end: Place, p: Parser, queue: &mut [u32]) -> Parser
     requires { ⌜ Room 1 p (now queue) ⌝ }
     requires { ⌜ OpenedBy (p .inside) p (now queue) ⌝ }
-    ensures { λ r. ⌜ ((o : List ℕ) → Changed p (now (queue .entry)) o r (now (queue .exit)) o (staying p (said.ended-at (end .0) (p .inside)))) ⌝ }
+    ensures { λ r. ⌜ ((o : List ℕ) → Changed p (now (queue .entry)) o r (now (queue .exit)) o (staying p (spec.ended-at (end .0) (p .inside)))) ⌝ }
 {
     let w = p.inside;
     match w {

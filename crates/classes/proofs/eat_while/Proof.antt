@@ -15,11 +15,8 @@ Inv-loop s set flags n₀ n = Passed (inSet set) s n
 abbrev μ-loop : tie.MeasureT-loop
 μ-loop s set flags n₀ n = length s - n
 
-classes-requires : tie.Need-classes-requires Inv-loop μ-loop
-classes-requires c κs = search needs
-
 loop-holds : tie.Need-loop-holds Inv-loop μ-loop
-loop-holds c = let a = c .before .before .args in passed-none (inSet (a .set)) (a .s .now)
+loop-holds c = let a = c .before .args in passed-none (inSet (a .set)) (a .s .now)
 
 shared-slice-read-within : tie.Need-shared-slice-read-within Inv-loop μ-loop
 shared-slice-read-within c = search needs
@@ -28,9 +25,9 @@ within-requires : tie.Need-within-requires Inv-loop μ-loop
 within-requires c κs = search needs
 
 returns : tie.Need-returns Inv-loop μ-loop
-returns c = let a = c .before .before .before .before .before .before .before .before .args in
-    let l = c .before .before .before .before .before .loop in
-    passed-here (inSet (a .set)) (a .s .now) (l .n) (l .inv) (c .before .before .before .before .loop-test .taken)
+returns c = let a = c .before .before .before .before .before .before .args in
+    let l = c .before .before .before .before .loop in
+    passed-here (inSet (a .set)) (a .s .now) (l .n) (l .inv) (c .before .before .before .loop-test .taken)
     (sym (c .before .within .ensures) ∙ not-true _ (c .if1 .taken))
 
 add-n : tie.Need-add-n Inv-loop μ-loop
@@ -40,14 +37,14 @@ loop-less : tie.Need-loop-less Inv-loop μ-loop
 loop-less c = search needs
 
 loop-again : tie.Need-loop-again Inv-loop μ-loop
-loop-again c = let a = c .before .before .before .before .before .before .before .before .args in
-    let l = c .before .before .before .before .before .loop in
-    passed-more (inSet (a .set)) (a .s .now) (l .n) (l .inv) (c .before .before .before .before .loop-test .taken)
+loop-again c = let a = c .before .before .before .before .before .before .args in
+    let l = c .before .before .before .before .loop in
+    passed-more (inSet (a .set)) (a .s .now) (l .n) (l .inv) (c .before .before .before .loop-test .taken)
     (sym (c .before .within .ensures) ∙ not-false _ (c .if1 .left))
 
 returns-2 : tie.Need-returns-2 Inv-loop μ-loop
 returns-2 c =
-    let a = c .before .before .before .before .args in passed-all (inSet (a .set)) (a .s .now) (c .before .loop .n) (c .before .loop .inv) (c .loop-test .left)
+    let a = c .before .before .before .args in passed-all (inSet (a .set)) (a .s .now) (c .before .loop .n) (c .before .loop .inv) (c .loop-test .left)
 
 pub eat-while-spec : {M : Type 1} → statement M
 eat-while-spec =
@@ -55,7 +52,6 @@ eat-while-spec =
     (tie.spec
     Inv-loop
     μ-loop
-    classes-requires
     loop-holds
     shared-slice-read-within
     within-requires

@@ -5,9 +5,6 @@ use Rattle.classes.proofs.Rule.{class-flags}
 use Rattle.classes.proofs.is_punctuation.Statement.{statement}
 use Rattle.classes.proofs.is_punctuation.Tie as tie
 
-classes-requires : tie.Need-classes-requires
-classes-requires c κs = search needs
-
 has-requires : tie.Need-has-requires
 has-requires c κs = search needs
 
@@ -15,4 +12,4 @@ returns : tie.Need-returns
 returns c = c .has .ensures ∙ class-flags _ .punctuation
 
 pub is-punctuation-spec : {M : Type 1} → statement M
-is-punctuation-spec = tie.close (tie.spec classes-requires has-requires returns)
+is-punctuation-spec = tie.close (tie.spec has-requires returns)

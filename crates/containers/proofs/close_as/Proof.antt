@@ -20,10 +20,10 @@ closes-pair-requires c κs =
     let closing-of = c .before .before .before .before .closing-of in
     let pair = c .before .before .pair in
     let r = pre .0 in
-    (omega (arith, r .long), (omega (arith, r .small, r .within), (named-pair (args .o) (args .p .events) _ _ (pre .1 .1) (sym (closing-of .ensures) ∙ pair .given .1), omega (arith, r .room, r .long, r .within))))
+    (omega (arith, r .long), (omega (arith, r .small, r .within), (named-pair (args .o) (args .p .events) _ _ (pre .1 .1 .0) (sym (closing-of .ensures) ∙ pair .given .1), omega (arith, r .room, r .long, r .within))))
 
 peeked-requires : tie.Need-peeked-requires
-peeked-requires c κs = search needs
+peeked-requires c κs = c .before .before .before .before .before .before .before .before .before .before .before .before .before .pre .1 .1 .1
 
 enum-known-image : tie.Need-enum-known-image
 enum-known-image c = search needs
@@ -34,7 +34,7 @@ closes-span-requires c κs =
     let args = c .before .before .before .before .before .before .before .before .before .before .before .args in
     let closing-of = c .before .before .before .before .before .closing-of in
     let image = c .before .before .before .image in
-    (pre .0, named-span (args .o) (args .p .events) _ _ (pre .1 .1) (sym (closing-of .ensures) ∙ image .given .1))
+    (pre .0, (named-span (args .o) (args .p .events) _ _ (pre .1 .1 .0) (sym (closing-of .ensures) ∙ image .given .1), pre .1 .1 .1))
 
 enum-known-t : tie.Need-enum-known-t
 enum-known-t c = search needs
@@ -48,11 +48,11 @@ closes-link-requires c κs =
     let r = pre .0 in
     let s = pre .1 .0 in
     let e = sym (closing-of .ensures) ∙ t .given .1 in
-    let n = named-link (args .o) (args .p .events) _ _ (pre .1 .1) e in
+    let n = named-link (args .o) (args .p .events) _ _ (pre .1 .1 .0) e in
     (omega (arith, r .long), (omega (arith, r .small, r .within), (link-small (args .o .sort) _ e, (n .0, (n .1, (omega (arith, r .room), (s .labels, (s .room, s .links))))))))
 
 peeked-requires-2 : tie.Need-peeked-requires-2
-peeked-requires-2 c κs = search needs
+peeked-requires-2 c κs = c .before .before .before .before .before .before .before .before .before .before .before .before .before .before .before .before .pre .1 .1 .1
 
 same-length : tie.Need-same-length
 same-length c = search needs

@@ -4,7 +4,7 @@ use native.Mathlib.Omega.{arith}
 use borrow.Author.Needs.{needs}
 use Rattle.reading.specs.Containers.{takes as takes-of, takes}
 use Rattle.rooms.proofs.Changing.{changed-openers}
-use Rattle.rooms.proofs.Rows.{pile-length}
+use Rattle.rooms.proofs.Rows.{stack-length}
 use Rattle.rooms.specs.Records.{openerAt}
 use Rattle.tables.specs.Tables.{taken-as}
 use Rattle.reading.specs.declared.Role.{Role}
@@ -13,8 +13,8 @@ use Rattle.containers.proofs.Closing.{span-events, span-none, span-alon
 use Rattle.containers.proofs.closes_span.Statement.{statement}
 use Rattle.containers.proofs.closes_span.Tie as tie
 
-peek-requires : tie.Need-peek-requires
-peek-requires c κs = search needs
+peek-token-requires : tie.Need-peek-token-requires
+peek-token-requires c κs = search needs
 
 moved-requires : tie.Need-moved-requires
 moved-requires c κs = search needs
@@ -37,7 +37,7 @@ same-length c = search needs
 returns : tie.Need-returns
 returns c =
     let args = c .before .before .before .before .before .before .before .before .before .before .before .before .before .args in
-    let peek = c .before .before .before .before .before .before .before .before .peek in
+    let peek = c .before .before .before .before .before .before .before .before .peek-token in
     let moved = c .before .before .before .before .before .before .moved in
     let put = c .before .before .before .before .put in
     let enum-told = c .enum-told in
@@ -61,7 +61,7 @@ same-length-2 c = search needs
 returns-2 : tie.Need-returns-2
 returns-2 c =
     let args = c .before .before .before .before .before .before .before .before .before .before .before .before .before .before .before .before .before .before .args in
-    let peek = c .before .before .before .before .before .before .before .before .before .before .before .before .before .peek in
+    let peek = c .before .before .before .before .before .before .before .before .before .before .before .before .before .peek-token in
     let moved = c .before .before .before .before .before .before .before .before .before .before .before .moved in
     let put = c .before .before .before .before .before .before .before .before .before .put in
     let next = c .before .before .before .before .before .next in
@@ -71,10 +71,10 @@ returns-2 c =
     span-alone (args .m) (args .line .now) (args .h) (args .image) (args .o) (args .p) (args .queue .now) (args .openers .now) (peek .result) (peek .ensures) (moved .result) (moved .ensures) (put .result) (put .last .1 .1 .1 .1 .1 .0) (put .ensures) _ (next .given .1) _
     (takes .ensures ∙ ap (λ (x : Role). taken-as (takes-of x)) (role-of .ensures)) (enum-told2 .given .1)
 
-add-t23 : tie.Need-add-t23
-add-t23 c =
+add-t24 : tie.Need-add-t24
+add-t24 c =
     let args = c .before .before .before .before .before .before .before .before .before .before .before .before .before .before .before .before .before .before .before .before .before .args in
-    let peek = c .before .before .before .before .before .before .before .before .before .before .before .before .before .before .before .before .peek in
+    let peek = c .before .before .before .before .before .before .before .before .before .before .before .before .before .before .before .before .peek-token in
     let moved = c .before .before .before .before .before .before .before .before .before .before .before .before .before .before .moved in
     let put = c .before .before .before .before .before .before .before .before .before .before .before .before .put in
     let next = c .before .before .before .before .before .before .before .before .next in
@@ -91,7 +91,7 @@ link-sort-requires c κs = search needs
 takes-along-requires : tie.Need-takes-along-requires
 takes-along-requires c κs =
     let args = c .before .before .before .before .before .before .before .before .before .before .before .before .before .before .before .before .before .before .before .before .before .before .before .before .args in
-    let peek = c .before .before .before .before .before .before .before .before .before .before .before .before .before .before .before .before .before .before .before .peek in
+    let peek = c .before .before .before .before .before .before .before .before .before .before .before .before .before .before .before .before .before .before .before .peek-token in
     let moved = c .before .before .before .before .before .before .before .before .before .before .before .before .before .before .before .before .before .moved in
     let put = c .before .before .before .before .before .before .before .before .before .before .before .before .before .before .before .put in
     let next = c .before .before .before .before .before .before .before .before .before .before .before .next in
@@ -101,7 +101,7 @@ takes-along-requires c κs =
     let w = span-within (args .m) (args .line .now) (args .h) (args .image) (args .o) (args .p) (args .queue .now) (args .openers .now) (peek .result) (peek .ensures) (moved .result) (moved .ensures) (put .result) (put .last .1 .1 .1 .1 .1 .0) (put .ensures) _ (next .given .1) _
     (takes .ensures ∙ ap (λ (x : Role). taken-as (takes-of x)) (role-of .ensures)) (pre .0 .sound) (pre .0 .place) in
     let n = span-events (args .m) (args .line .now) (args .h) (args .image) (args .o) (args .p) (args .queue .now) (args .openers .now) (peek .result) (peek .ensures) (moved .result) (moved .ensures) (put .result) (put .last .1 .1 .1 .1 .1 .0) (put .ensures) in
-    let k = changed-openers (moved .result) (args .queue .now) (args .openers .now) (put .result) (put .last .1 .1 .1 .1 .1 .0) (args .openers .now) _ (put .ensures (args .openers .now)) ∙ pile-length openerAt (moved .result .openers) (args .openers .now) ∙ ap (λ (x : Parser). x .openers) (moved .ensures) in
+    let k = changed-openers (moved .result) (args .queue .now) (args .openers .now) (put .result) (put .last .1 .1 .1 .1 .1 .0) (args .openers .now) _ (put .ensures (args .openers .now)) ∙ stack-length openerAt (moved .result .openers) (args .openers .now) ∙ ap (λ (x : Parser). x .openers) (moved .ensures) in
     let r = pre .0 in (
       record { ordered = omega arith; within = w .1; small = r .small },
       (
@@ -109,10 +109,10 @@ takes-along-requires c κs =
         (
           omega (arith, n, r .few, r .long, r .within),
           (
-            omega (arith, pre .1, r .few, r .long, r .within),
+            omega (arith, pre .1 .0, r .few, r .long, r .within),
             (
               omega (arith, k, r .shallow, r .long, r .within),
-              omega (arith, k, r .stack, r .long, r .within),
+              (omega (arith, k, r .stack, r .long, r .within), pre .1 .1),
             ),
           ),
         ),
@@ -131,7 +131,7 @@ same-length-4 c = search needs
 returns-3 : tie.Need-returns-3
 returns-3 c =
     let args = c .before .before .before .before .before .before .before .before .before .before .before .before .before .before .before .before .before .before .before .before .before .before .before .before .before .before .before .before .before .args in
-    let peek = c .before .before .before .before .before .before .before .before .before .before .before .before .before .before .before .before .before .before .before .before .before .before .before .before .peek in
+    let peek = c .before .before .before .before .before .before .before .before .before .before .before .before .before .before .before .before .before .before .before .before .before .before .before .before .peek-token in
     let moved = c .before .before .before .before .before .before .before .before .before .before .before .before .before .before .before .before .before .before .before .before .before .before .moved in
     let put = c .before .before .before .before .before .before .before .before .before .before .before .before .before .before .before .before .before .before .before .before .put in
     let next = c .before .before .before .before .before .before .before .before .before .before .before .before .before .before .before .before .next in
@@ -147,7 +147,7 @@ pub closes-span-spec : {M : Type 1} → statement M
 closes-span-spec =
     tie.close
     (tie.spec
-    peek-requires
+    peek-token-requires
     moved-requires
     put-requires
     enum-known-next
@@ -160,7 +160,7 @@ closes-span-spec =
     enum-told-2
     same-length-2
     returns-2
-    add-t23
+    add-t24
     link-sort-requires
     takes-along-requires
     same-length-3

@@ -5,7 +5,7 @@ use Rattle.rooms.proofs.Rows.{rows-length}
 use Rattle.rooms.specs.Standing.{stands, viewed, here}
 use Rattle.rooms.specs.Records.{eventAt}
 use Rattle.classes.specs.Classes.{blank}
-use Rattle.containers.proofs.Trying.{close-told}
+use Rattle.containers.proofs.Trying.{close-tested}
 use Rattle.containers.proofs.may_close.Statement.{statement}
 use Rattle.containers.proofs.may_close.Tie as tie
 
@@ -31,7 +31,7 @@ returns c q os l =
     let two-way = c .two-way in
     let is-blank = c .before .before .before .before .is-blank in
     let byte-before = c .before .before .before .before .before .byte-before in
-    close-told (viewed (args .m) (args .line .now)) (here (args .h) (args .p)) (stands (args .p) q os l) (args .o) (args .p .events) (rows-length eventAt (args .p .events) q) (may-be-empty .result) (two-way .result) (is-blank .result)
+    close-tested (viewed (args .m) (args .line .now)) (here (args .h) (args .p)) (stands (args .p) q os l) (args .o) (args .p .events) (rows-length eventAt (args .p .events) q) (may-be-empty .result) (two-way .result) (is-blank .result)
     (may-be-empty .ensures) (two-way .ensures) (is-blank .ensures ∙ ap blank (byte-before .ensures))
 
 pub may-close-spec : {M : Type 1} → statement M

@@ -3,7 +3,7 @@ use mathlib.Core.Path.{_∙_, ap}
 use borrow.Author.Needs.{needs}
 use Rattle.rooms.specs.Standing.{stands, viewed, here}
 use Rattle.classes.specs.Classes.{blank}
-use Rattle.containers.proofs.Trying.{open-told}
+use Rattle.containers.proofs.Trying.{open-tested}
 use Rattle.containers.proofs.may_open.Statement.{statement}
 use Rattle.containers.proofs.may_open.Tie as tie
 
@@ -30,7 +30,7 @@ returns c q os l =
     let is-single = c .before .is-single in
     let is-blank = c .before .before .before .before .is-blank in
     let byte-before = c .before .before .before .before .before .byte-before in
-    open-told (viewed (args .m) (args .line .now)) (here (args .h) (args .p)) (stands (args .p) q os l) (args .sort) (two-way .result) (blank-after .result) (is-single .result) (is-blank .result)
+    open-tested (viewed (args .m) (args .line .now)) (here (args .h) (args .p)) (stands (args .p) q os l) (args .sort) (two-way .result) (blank-after .result) (is-single .result) (is-blank .result)
     (two-way .ensures) (blank-after .ensures (args .m) (args .h .from) (args .p .cursor)) (is-single .ensures) (is-blank .ensures ∙ ap blank (byte-before .ensures))
 
 pub may-open-spec : {M : Type 1} → statement M

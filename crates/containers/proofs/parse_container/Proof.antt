@@ -8,7 +8,7 @@ use Rattle.containers.proofs.parse_container.Tie as tie
 tried-requires : tie.Need-tried-requires
 tried-requires c κs =
     let pre = c .before .before .before .before .before .before .pre in
-    (omega (arith, pre .0 .long, pre .0 .within), (omega (arith, pre .0 .stack), pre .0 .named))
+    (omega (arith, pre .0 .long, pre .0 .within), (omega (arith, pre .0 .stack), (pre .0 .named, pre .1 .1)))
 
 enum-known-i : tie.Need-enum-known-i
 enum-known-i c = search needs
@@ -32,7 +32,7 @@ returns c rules =
     let enum-told = c .before .before .before .before .before .before .before .enum-told in
     let pre = c .before .before .before .before .before .before .before .before .before .before .before .before .before .before .before .before .pre in
     let opens-or = c .before .before .before .before .opens-or in
-    none-step (args .m) (args .text .now) (args .line .now) (args .h) (args .k) (args .p) (args .queue .now) (args .openers .now) (args .labels .now) (tried .result) (tried .ensures (args .queue .now) (args .labels .now)) (enum-told .given .1) (pre .1 .labels) (opens-or .result) (opens-or .last .1 .1 .1 .1 .1 .0) (opens-or .last .1 .1 .1 .1 .1 .1 .0) (opens-or .ensures) rules
+    none-step (args .m) (args .text .now) (args .line .now) (args .h) (args .k) (args .p) (args .queue .now) (args .openers .now) (args .labels .now) (tried .result) (tried .ensures (args .queue .now) (args .labels .now)) (enum-told .given .1) (pre .1 .0 .labels) (opens-or .result) (opens-or .last .1 .1 .1 .1 .1 .0) (opens-or .last .1 .1 .1 .1 .1 .1 .0) (opens-or .ensures) rules
 
 opener-at-requires : tie.Need-opener-at-requires
 opener-at-requires c κs =
@@ -51,8 +51,8 @@ close-as-requires c κs =
     let opener-at = c .before .before .before .opener-at in (
       found-ready (args .m) (args .text .now) (args .line .now) (args .h) (args .k) (args .p) (args .queue .now) (args .openers .now) (args .labels .now) (tried .result) (tried .ensures (args .queue .now) (args .labels .now)) _ (i .given .1) (pre .0),
       (
-        record { labels = pre .1 .labels; room = pre .1 .room; links = pre .1 .links },
-        found-names (args .m) (args .text .now) (args .line .now) (args .h) (args .k) (args .p) (args .queue .now) (args .openers .now) (args .labels .now) (tried .result) (tried .ensures (args .queue .now) (args .labels .now)) _ (i .given .1) (opener-at .result) (opener-at .ensures) (pre .0 .named),
+        record { labels = pre .1 .0 .labels; room = pre .1 .0 .room; links = pre .1 .0 .links },
+        (found-names (args .m) (args .text .now) (args .line .now) (args .h) (args .k) (args .p) (args .queue .now) (args .openers .now) (args .labels .now) (tried .result) (tried .ensures (args .queue .now) (args .labels .now)) _ (i .given .1) (opener-at .result) (opener-at .ensures) (pre .0 .named), pre .1 .1),
       ),
     )
 

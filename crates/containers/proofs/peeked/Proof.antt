@@ -6,8 +6,8 @@ use Rattle.lex.specs.declared.lex.Lexed.{Lexed}
 use Rattle.containers.proofs.peeked.Statement.{statement}
 use Rattle.containers.proofs.peeked.Tie as tie
 
-peek-requires : tie.Need-peek-requires
-peek-requires c κs = search needs
+peek-token-requires : tie.Need-peek-token-requires
+peek-token-requires c κs = search needs
 
 moved-requires : tie.Need-moved-requires
 moved-requires c κs = search needs
@@ -16,8 +16,8 @@ returns : tie.Need-returns
 returns c =
     let moved = c .moved in
     let args = c .before .before .before .before .before .args in
-    let peek = c .before .before .peek in
+    let peek = c .before .before .peek-token in
     moved .ensures ∙ ap (λ (x : Lexed). movedTo (args .p) (x .cursor)) (peek .ensures)
 
 pub peeked-spec : {M : Type 1} → statement M
-peeked-spec = tie.close (tie.spec peek-requires moved-requires returns)
+peeked-spec = tie.close (tie.spec peek-token-requires moved-requires returns)

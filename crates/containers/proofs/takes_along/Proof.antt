@@ -17,7 +17,7 @@ moved-requires : tie.Need-moved-requires
 moved-requires c κs = search needs
 
 add-out : tie.Need-add-out
-add-out c = let pre = c .before .before .before .before .before .before .before .before .before .before .pre in omega (arith, pre .1 .1 .1 .1)
+add-out c = let pre = c .before .before .before .before .before .before .before .before .before .before .pre in omega (arith, pre .1 .1 .1 .1 .1 .0)
 
 put-requires : tie.Need-put-requires
 put-requires c κs =

@@ -43,7 +43,7 @@ may-close-requires c κs =
     let opener-at = c .opener-at in
     let q = [] in
     let l = [] in
-    (pre .0, sought-names (viewed (args .m) (args .line .now)) (here (args .h) (args .p)) (stands (args .p) q (args .openers .now) l) (args .openers .now) (args .closes) (args .p .openers) (seek .result) (seek .ensures) _ (i .given .1) (opener-at .result) (opener-at .ensures) (args .p .events) (pre .1 .1))
+    (pre .0, (sought-names (viewed (args .m) (args .line .now)) (here (args .h) (args .p)) (stands (args .p) q (args .openers .now) l) (args .openers .now) (args .closes) (args .p .openers) (seek .result) (seek .ensures) _ (i .given .1) (opener-at .result) (opener-at .ensures) (args .p .events) (pre .1 .1 .0), pre .1 .1 .1))
 
 returns-2 : tie.Need-returns-2
 returns-2 c q l =

@@ -1,9 +1,9 @@
--- `drain::drain` meets its contract: `Head` of `proofs.Turns` holds at the loop's head. The measure is what is left of the queue.
+-- `drain::drain` meets its contract: `Head` of `proofs.Steps` holds at the loop's head. The measure is what is left of the queue.
 use Prim.Native.Nat.{_-_}
 use borrow.Author.Needs.{needs}
 use Rattle.reading.specs.Draining as draining
 use Rattle.rooms.specs.Records.{events}
-use Rattle.drain.proofs.Turns.{Head, head-first, head-next, head-full, head-last, told}
+use Rattle.drain.proofs.Steps.{Head, head-first, head-next, head-full, head-last, drained-answer}
 use Rattle.drain.proofs.drain.Statement.{statement}
 use Rattle.drain.proofs.drain.Tie as tie
 
@@ -37,7 +37,7 @@ returns c =
     let l = c .before .before .before .before .before .before .before .before .loop in
     let t = c .before .before .before .before .drain-event in
     let e = c .before .before .before .before .before .event-at in
-    told (draining.drain (events (a .n) (a .queue .now))) (a .room .now) (t .last .0) _
+    drained-answer (draining.drain (events (a .n) (a .queue .now))) (a .room .now) (t .last .0) _
     (head-full (a .queue .now) (a .n) (a .room .now) (l .room) (l .h) (l .i) (l .inv) (c .before .before .before .before .before .before .before .loop-test .taken) (e .result) (e .ensures) (t .result) (t .last .0) (t .ensures)
     (c .enum-told .given .1))
 
@@ -68,7 +68,7 @@ returns-2 c =
     let a = c .before .before .before .before .before .before .before .before .args in
     let l = c .before .before .before .before .before .loop in
     let f = c .before .before .flush in
-    told (draining.drain (events (a .n) (a .queue .now))) (a .room .now) (f .last .0) (f .result)
+    drained-answer (draining.drain (events (a .n) (a .queue .now))) (a .room .now) (f .last .0) (f .result)
     (head-last (a .queue .now) (a .n) (a .room .now) (l .room) (l .h) (l .i) (l .inv) (c .before .before .before .before .loop-test .left) (f .result) (f .last .0) (f .ensures))
 
 pub drain-spec : {M : Type 1} → statement M

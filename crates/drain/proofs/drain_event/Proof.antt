@@ -3,8 +3,8 @@ use mathlib.Core.Path.{_∙_}
 use borrow.Author.Needs.{needs}
 use Rattle.reading.specs.Draining.{drained}
 use Rattle.drain.specs.declared.Drained.the-variants.{All}
-use Rattle.drain.specs.Pouring.{out, rest}
-use Rattle.drain.proofs.Turns.{flush-full, flush-on, turn-other, turn-grows, turn-apart}
+use Rattle.drain.specs.Storing.{out, rest}
+use Rattle.drain.proofs.Steps.{flush-full, flush-on, turn-other, turn-grows, turn-apart}
 use Rattle.drain.proofs.drain_event.Statement.{statement}
 use Rattle.drain.proofs.drain_event.Tie as tie
 

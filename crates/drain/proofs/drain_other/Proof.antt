@@ -3,8 +3,8 @@ use mathlib.Core.Path.{_∙_}
 use mathlib.Core.List.{_∷_}
 use borrow.Author.Needs.{needs}
 use Rattle.reading.specs.Draining.{drained}
-use Rattle.drain.specs.Pouring.{rest}
-use Rattle.drain.proofs.Turns.{flush-full, flush-on, put-full, put-on}
+use Rattle.drain.specs.Storing.{rest}
+use Rattle.drain.proofs.Steps.{flush-full, flush-on, put-full, put-on}
 use Rattle.drain.proofs.drain_other.Statement.{statement}
 use Rattle.drain.proofs.drain_other.Tie as tie
 

@@ -3,8 +3,8 @@ use mathlib.Core.Path.{ap, _∙_}
 use borrow.Author.Needs.{needs}
 use Rattle.reading.specs.declared.Event.{Event}
 use Rattle.drain.specs.declared.Drained.the-variants.{All}
-use Rattle.drain.specs.Pouring.{out, put}
-use Rattle.drain.proofs.Turns.{flush-none, flush-one}
+use Rattle.drain.specs.Storing.{out, put}
+use Rattle.drain.proofs.Steps.{flush-none, flush-one}
 use Rattle.drain.proofs.flush.Statement.{statement}
 use Rattle.drain.proofs.flush.Tie as tie
 

@@ -3,8 +3,8 @@ use mathlib.Core.Path.{sym, _∙_}
 use native.Mathlib.Numerals.{add-one}
 use borrow.Author.Needs.{needs}
 use Rattle.drain.specs.declared.Drained.the-variants.{All}
-use Rattle.drain.specs.Pouring.{out}
-use Rattle.drain.proofs.Pouring.{put-in, put-out}
+use Rattle.drain.specs.Storing.{out}
+use Rattle.drain.proofs.Storing.{put-in, put-out}
 use Rattle.drain.proofs.hand_out.Statement.{statement}
 use Rattle.drain.proofs.hand_out.Tie as tie
 

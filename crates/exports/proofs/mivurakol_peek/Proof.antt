@@ -7,6 +7,9 @@ use Rattle.exports.specs.Numbers.{stepOf}
 use Rattle.exports.proofs.mivurakol_peek.Statement.{statement}
 use Rattle.exports.proofs.mivurakol_peek.Tie as tie
 
+classes-requires : tie.Need-classes-requires
+classes-requires c κs = search needs
+
 cursor-of-requires : tie.Need-cursor-of-requires
 cursor-of-requires c κs = search needs
 
@@ -17,8 +20,8 @@ step-of-requires : tie.Need-step-of-requires
 step-of-requires c κs = search needs
 
 returns : tie.Need-returns
-returns c = c .step-of .ensures ∙ ap (λ (l : Lexed). stepOf l) (c .before .peek-token .ensures ∙ ap (peekOf _) (c .before .before .cursor-of .ensures))
+returns c = c .step-of .ensures ∙ ap (λ (l : Lexed). stepOf l) (c .before .peek-token .ensures ∙ ap (peekOf _) (c .before .before .before .cursor-of .ensures))
 
 pub mivurakol-peek-spec : {M : Type 1} → statement M
 mivurakol-peek-spec =
-    tie.close (tie.spec cursor-of-requires peek-token-requires step-of-requires returns)
+    tie.close (tie.spec classes-requires cursor-of-requires peek-token-requires step-of-requires returns)

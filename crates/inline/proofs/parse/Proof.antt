@@ -10,10 +10,13 @@ use Rattle.inline.proofs.parse.Statement.{statement}
 use Rattle.inline.proofs.parse.Tie as tie
 
 abbrev Inv-loop : tie.InvT-loop
-Inv-loop text starts ends reading queue₀ openers₀ labels₀ p₀ end₀ i₀ queue openers labels p end i = Head text (lines-of starts ends) reading queue₀ openers₀ labels₀ queue openers labels p end i
+Inv-loop text starts ends reading queue₀ openers₀ labels₀ flags p₀ end₀ i₀ queue openers labels p end i = Head text (lines-of starts ends) reading queue₀ openers₀ labels₀ queue openers labels p end i
 
 abbrev μ-loop : tie.MeasureT-loop
-μ-loop text starts ends reading queue₀ openers₀ labels₀ p₀ end₀ i₀ queue openers labels p end i = length starts - i
+μ-loop text starts ends reading queue₀ openers₀ labels₀ flags p₀ end₀ i₀ queue openers labels p end i = length starts - i
+
+classes-requires : tie.Need-classes-requires Inv-loop μ-loop
+classes-requires c κs = search needs
 
 fresh-requires : tie.Need-fresh-requires Inv-loop μ-loop
 fresh-requires c κs =
@@ -21,8 +24,8 @@ fresh-requires c κs =
 
 loop-holds : tie.Need-loop-holds Inv-loop μ-loop
 loop-holds c =
-    let args = c .before .before .before .before .before .before .before .args in
-    let pre = c .before .before .before .before .before .before .before .pre in
+    let args = c .before .before .before .before .before .before .before .before .args in
+    let pre = c .before .before .before .before .before .before .before .before .pre in
     let fresh = c .fresh in
     head-first (args .text .now) (lines-of (args .starts .now) (args .ends .now)) (args .reading) (args .queue .now) (args .openers .now) (args .labels .now) (pre .1) (fresh .result) (fresh .ensures .0) (fresh .ensures .1 .0)
 
@@ -42,42 +45,43 @@ mul-end c =
 shared-slice-read-end : tie.Need-shared-slice-read-end Inv-loop μ-loop
 shared-slice-read-end c =
     let loop-test = c .before .before .loop-test in
-    let pre = c .before .before .before .before .before .before .before .before .before .before .before .pre in
+    let pre = c .before .before .before .before .before .before .before .before .before .before .before .before .pre in
     omega (arith, loop-test .taken, pre .0)
 
 feed-line-requires : tie.Need-feed-line-requires Inv-loop μ-loop
 feed-line-requires c κs =
-    let args = c .before .before .before .before .before .before .before .before .before .before .before .before .before .before .args in
-    let pre = c .before .before .before .before .before .before .before .before .before .before .before .before .before .before .pre in
-    let loop = c .before .before .before .before .before .before .loop in
-    let loop-test = c .before .before .before .before .before .loop-test in
-    head-fed (args .text .now) (lines-of (args .starts .now) (args .ends .now)) (args .reading) (args .queue .now) (args .openers .now) (args .labels .now) (pre .1) (loop .queue) (loop .openers) (loop .labels) (loop .p) (loop .end) (loop .i) (loop .inv) (omega (arith, loop-test .taken, lines-length (args .starts .now) (args .ends .now) (pre .0))) _ (lines-at (args .starts .now) (args .ends .now) (loop .i) (loop-test .taken) (omega (arith, loop-test .taken, pre .0)))
+    let args = c .before .before .before .before .before .before .before .before .before .before .before .before .before .before .before .before .args in
+    let pre = c .before .before .before .before .before .before .before .before .before .before .before .before .before .before .before .before .pre in
+    let classes = c .before .before .before .before .before .before .before .before .before .classes in
+    let loop = c .before .before .before .before .before .before .before .loop in
+    let loop-test = c .before .before .before .before .before .before .loop-test in
+    (head-fed (args .text .now) (lines-of (args .starts .now) (args .ends .now)) (args .reading) (args .queue .now) (args .openers .now) (args .labels .now) (pre .1) (loop .queue) (loop .openers) (loop .labels) (loop .p) (loop .end) (loop .i) (loop .inv) (omega (arith, loop-test .taken, lines-length (args .starts .now) (args .ends .now) (pre .0))) _ (lines-at (args .starts .now) (args .ends .now) (loop .i) (loop-test .taken) (omega (arith, loop-test .taken, pre .0))), classes .ensures)
 
 add-i : tie.Need-add-i Inv-loop μ-loop
 add-i c =
-    let loop-test = c .before .before .before .before .before .before .before .before .before .before .before .before .loop-test in
-    let pre = c .before .before .before .before .before .before .before .before .before .before .before .before .before .before .before .before .before .before .before .before .before .pre in
-    let args = c .before .before .before .before .before .before .before .before .before .before .before .before .before .before .before .before .before .before .before .before .before .args in
+    let loop-test = c .before .before .before .before .before .before .before .before .before .before .before .before .before .loop-test in
+    let pre = c .before .before .before .before .before .before .before .before .before .before .before .before .before .before .before .before .before .before .before .before .before .before .before .pre in
+    let args = c .before .before .before .before .before .before .before .before .before .before .before .before .before .before .before .before .before .before .before .before .before .before .before .args in
     omega (arith, loop-test .taken, pre .1 .listed, lines-length (args .starts .now) (args .ends .now) (pre .0))
 
 loop-less : tie.Need-loop-less Inv-loop μ-loop
 loop-less c =
-    let loop-test = c .before .before .before .before .before .before .before .before .before .before .before .before .loop-test in
+    let loop-test = c .before .before .before .before .before .before .before .before .before .before .before .before .before .loop-test in
     omega (arith, loop-test .taken)
 
 loop-again : tie.Need-loop-again Inv-loop μ-loop
 loop-again c =
-    let args = c .before .before .before .before .before .before .before .before .before .before .before .before .before .before .before .before .before .before .before .before .before .args in
-    let pre = c .before .before .before .before .before .before .before .before .before .before .before .before .before .before .before .before .before .before .before .before .before .pre in
-    let loop = c .before .before .before .before .before .before .before .before .before .before .before .before .before .loop in
-    let loop-test = c .before .before .before .before .before .before .before .before .before .before .before .before .loop-test in
+    let args = c .before .before .before .before .before .before .before .before .before .before .before .before .before .before .before .before .before .before .before .before .before .before .before .args in
+    let pre = c .before .before .before .before .before .before .before .before .before .before .before .before .before .before .before .before .before .before .before .before .before .before .before .pre in
+    let loop = c .before .before .before .before .before .before .before .before .before .before .before .before .before .before .loop in
+    let loop-test = c .before .before .before .before .before .before .before .before .before .before .before .before .before .loop-test in
     let feed-line = c .before .before .before .before .before .before .feed-line in
     head-next (args .text .now) (lines-of (args .starts .now) (args .ends .now)) (args .reading) (args .queue .now) (args .openers .now) (args .labels .now) (pre .1) (loop .queue) (loop .openers) (loop .labels) (loop .p) (loop .end) (loop .i) (loop .inv) (omega (arith, loop-test .taken, lines-length (args .starts .now) (args .ends .now) (pre .0))) _ (lines-at (args .starts .now) (args .ends .now) (loop .i) (loop-test .taken) (omega (arith, loop-test .taken, pre .0))) (feed-line .result) (feed-line .last .1 .1 .1 .1 .1 .0) (feed-line .last .1 .1 .1 .1 .1 .1 .0) (feed-line .last .1 .1 .1 .1 .1 .1 .1 .0) (feed-line .ensures) (feed-line .kept .1 .1 .1 .1 .1 .0) (feed-line .kept .1 .1 .1 .1 .1 .1 .0) (feed-line .kept .1 .1 .1 .1 .1 .1 .1 .0)
 
 finish-requires : tie.Need-finish-requires Inv-loop μ-loop
 finish-requires c κs =
-    let args = c .before .before .before .before .before .before .before .before .before .before .args in
-    let pre = c .before .before .before .before .before .before .before .before .before .before .pre in
+    let args = c .before .before .before .before .before .before .before .before .before .before .before .args in
+    let pre = c .before .before .before .before .before .before .before .before .before .before .before .pre in
     let loop = c .before .before .loop in
     let loop-test = c .before .loop-test in
     (end-small (args .text .now) (lines-of (args .starts .now) (args .ends .now)) (args .reading) (args .queue .now) (args .openers .now) (args .labels .now) (pre .1) (loop .queue) (loop .openers) (loop .labels) (loop .p) (loop .end) (loop .i) (loop .inv) (omega (arith, loop-test .left, lines-length (args .starts .now) (args .ends .now) (pre .0))), (end-room (args .text .now) (lines-of (args .starts .now) (args .ends .now)) (args .reading) (args .queue .now) (args .openers .now) (args .labels .now) (pre .1) (loop .queue) (loop .openers) (loop .labels) (loop .p) (loop .end) (loop .i) (loop .inv) (omega (arith, loop-test .left, lines-length (args .starts .now) (args .ends .now) (pre .0))), end-closing (args .text .now) (lines-of (args .starts .now) (args .ends .now)) (args .reading) (args .queue .now) (args .openers .now) (args .labels .now) (pre .1) (loop .queue) (loop .openers) (loop .labels) (loop .p) (loop .end) (loop .i) (loop .inv) (omega (arith, loop-test .left, lines-length (args .starts .now) (args .ends .now) (pre .0)))))
@@ -100,8 +104,8 @@ same-length-3 c =
 
 returns : tie.Need-returns Inv-loop μ-loop
 returns c =
-    let args = c .before .before .before .before .before .before .before .before .before .before .before .before .before .args in
-    let pre = c .before .before .before .before .before .before .before .before .before .before .before .before .before .pre in
+    let args = c .before .before .before .before .before .before .before .before .before .before .before .before .before .before .args in
+    let pre = c .before .before .before .before .before .before .before .before .before .before .before .before .before .before .pre in
     let loop = c .before .before .before .before .before .loop in
     let loop-test = c .before .before .before .before .loop-test in
     let finish = c .before .before .finish in
@@ -113,6 +117,7 @@ parse-spec =
     (tie.spec
     Inv-loop
     μ-loop
+    classes-requires
     fresh-requires
     loop-holds
     mul-start

@@ -10,10 +10,10 @@ use Rattle.inline.proofs.read_line.Statement.{statement}
 use Rattle.inline.proofs.read_line.Tie as tie
 
 abbrev Inv-loop : tie.InvT-loop
-Inv-loop text line m reading queue₀ openers₀ labels₀ n out₀ left₀ queue openers labels out left = Turns text line m reading queue₀ openers₀ labels₀ out₀ queue openers labels out left
+Inv-loop text line m reading queue₀ openers₀ labels₀ flags n out₀ left₀ queue openers labels out left = Turns text line m reading queue₀ openers₀ labels₀ out₀ queue openers labels out left
 
 abbrev μ-loop : tie.MeasureT-loop
-μ-loop text line m reading queue₀ openers₀ labels₀ n out₀ left₀ queue openers labels out left = left
+μ-loop text line m reading queue₀ openers₀ labels₀ flags n out₀ left₀ queue openers labels out left = left
 
 begun-requires : tie.Need-begun-requires Inv-loop μ-loop
 begun-requires c κs =
@@ -24,7 +24,7 @@ loop-holds c =
     let args = c .before .before .before .before .before .before .args in
     let begun = c .begun in
     let pre = c .before .before .before .before .before .before .pre in
-    turns-first (args .text .now) (args .line .now) (args .m) (args .reading) (args .queue .now) (args .openers .now) (args .labels .now) (args .p) (begun .result) (lined-begins (args .text .now) (args .line .now) (args .m) (args .reading) (args .p) (args .queue .now) (args .openers .now) (args .labels .now) pre) (begun .ensures)
+    turns-first (args .text .now) (args .line .now) (args .m) (args .reading) (args .queue .now) (args .openers .now) (args .labels .now) (args .p) (begun .result) (lined-begins (args .text .now) (args .line .now) (args .m) (args .reading) (args .p) (args .queue .now) (args .openers .now) (args .labels .now) (pre .0)) (begun .ensures)
 
 over-requires : tie.Need-over-requires Inv-loop μ-loop
 over-requires c κs =
@@ -57,12 +57,13 @@ returns c =
 parse-event-requires : tie.Need-parse-event-requires Inv-loop μ-loop
 parse-event-requires c κs =
     let args = c .before .before .before .before .before .before .before .before .before .before .before .before .before .args in
+    let pre = c .before .before .before .before .before .before .before .before .before .before .before .before .before .pre in
     let begun = c .before .before .before .before .before .before .before .begun in
     let loop = c .before .before .before .before .before .before .loop in
     let loop-test = c .before .before .before .before .before .loop-test in
     let over = c .before .before .before .before .over in
     let if1 = c .before .before .before .if1 in
-    turns-before (args .text .now) (args .line .now) (args .m) (args .reading) (args .queue .now) (args .openers .now) (args .labels .now) (begun .result) (loop .queue) (loop .openers) (loop .labels) (loop .out) (loop .left) (loop .inv) (loop-test .taken) (sym (over .ensures) ∙ if1 .left)
+    (turns-before (args .text .now) (args .line .now) (args .m) (args .reading) (args .queue .now) (args .openers .now) (args .labels .now) (begun .result) (loop .queue) (loop .openers) (loop .labels) (loop .out) (loop .left) (loop .inv) (loop-test .taken) (sym (over .ensures) ∙ if1 .left), pre .1)
 
 sub-left : tie.Need-sub-left Inv-loop μ-loop
 sub-left c =

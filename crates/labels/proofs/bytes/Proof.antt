@@ -8,15 +8,15 @@ use borrow.Author.Needs.{needs}
 use borrow.Author.Tests.{not-true, not-false}
 use lib.ListN.{length, drop}
 use Rattle.reading.specs.Labels.{pieces, separator}
-use Rattle.labels.specs.Building.{Filled}
-use Rattle.labels.proofs.Filling.{filled-none, filled-stuck, filled-turn, filled-last}
+use Rattle.labels.specs.Building.{Appended}
+use Rattle.labels.proofs.Appending.{filled-none, filled-stuck, filled-turn, filled-last}
 use Rattle.labels.proofs.bytes.Statement.{statement}
 use Rattle.labels.proofs.bytes.Tie as tie
 
 abbrev Inv-loop : tie.InvT-loop
 Inv-loop s labels₀ inline j₀ i₀ labels j i =
     (j .fits ≡ true)
-    × Filled labels₀ (j₀ .used) (λ y. pieces (separator inline) (j₀ .begun) (j₀ .apart) (s ++ y))
+    × Appended labels₀ (j₀ .used) (λ y. pieces (separator inline) (j₀ .begun) (j₀ .apart) (s ++ y))
     labels (j .used) (j .fits) (λ y. pieces (separator inline) (j .begun) (j .apart) (drop i s ++ y))
 
 abbrev μ-loop : tie.MeasureT-loop

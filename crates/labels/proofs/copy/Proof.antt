@@ -7,13 +7,13 @@ use native.Mathlib.Omega.{arith}
 use borrow.Author.Needs.{needs}
 use borrow.Author.Tests.{not-true, not-false}
 use lib.ListN.{length, drop}
-use Rattle.labels.specs.Building.{Filled}
-use Rattle.labels.proofs.Filling.{filled-none, filled-stuck, filled-turn, filled-last}
+use Rattle.labels.specs.Building.{Appended}
+use Rattle.labels.proofs.Appending.{filled-none, filled-stuck, filled-turn, filled-last}
 use Rattle.labels.proofs.copy.Statement.{statement}
 use Rattle.labels.proofs.copy.Tie as tie
 
 abbrev Inv-loop : tie.InvT-loop
-Inv-loop s labels₀ used built₀ i₀ labels built i = (built .fits ≡ true) × Filled labels₀ used (λ y. s ++ y) labels (built .used) (built .fits) (λ y. drop i s ++ y)
+Inv-loop s labels₀ used built₀ i₀ labels built i = (built .fits ≡ true) × Appended labels₀ used (λ y. s ++ y) labels (built .used) (built .fits) (λ y. drop i s ++ y)
 
 abbrev μ-loop : tie.MeasureT-loop
 μ-loop s labels₀ used built₀ i₀ labels built i = length s - i

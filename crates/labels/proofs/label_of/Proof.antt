@@ -2,7 +2,7 @@
 use native.Mathlib.Omega.{arith}
 use borrow.Author.Tests.{not-true, not-false}
 use borrow.Author.Needs.{needs}
-use Rattle.labels.proofs.Shelving.{said-here, said-off, said-words, said-lines}
+use Rattle.labels.proofs.Homes.{stands-here, stands-off, stands-words, stands-lines}
 use Rattle.labels.proofs.label_of.Statement.{statement}
 use Rattle.labels.proofs.label_of.Tie as tie
 
@@ -20,7 +20,7 @@ returns c =
     let e = c .before .before .before .before .before .before .before .before .before .before .before .before .before .before .before in
     let a = e .args in
     let v = c .before .before .before .before .before .before .before .before .before .before .before .event-at in
-    said-here (a .text .now) (a .queue .now) (a .n) (a .d) (a .labels .now) (a .used) (e .pre .1 .1 .1 .0) (v .result) (v .ensures)
+    stands-here (a .text .now) (a .queue .now) (a .n) (a .d) (a .labels .now) (a .used) (e .pre .1 .1 .1 .0) (v .result) (v .ensures)
     (a .fits) _ (c .before .before .before .wide .ensures) (c .before .if1 .taken) _ (c .home-in-text .ensures)
 
 unbuilt-requires : tie.Need-unbuilt-requires
@@ -31,7 +31,7 @@ returns-2 c =
     let e = c .before .before .before .before .before .before .before .before .before .before .before .before .before .before .before .before in
     let a = e .args in
     let v = c .before .before .before .before .before .before .before .before .before .before .before .before .event-at in
-    said-off (a .text .now) (a .queue .now) (a .n) (a .d) (a .labels .now) (a .used) (e .pre .1 .1 .1 .0) (v .result) (v .ensures)
+    stands-off (a .text .now) (a .queue .now) (a .n) (a .d) (a .labels .now) (a .used) (e .pre .1 .1 .1 .0) (v .result) (v .ensures)
     _ (c .before .before .before .before .wide .ensures) (c .before .before .if1 .left) _ (a .fits) (not-true _ (c .before .if2 .taken)) (c .unbuilt .ensures)
 
 add-words : tie.Need-add-words
@@ -45,8 +45,8 @@ words-requires c κs =
     let e = c .before .before .before .before .before .before .before .before .before .before .before .before .before .before .before .before .before .before .before in
     (omega (arith, e .pre .0, e .pre .1 .0), e .pre .1 .1 .1 .0)
 
-shelve-requires : tie.Need-shelve-requires
-shelve-requires c κs =
+home-in-room-requires : tie.Need-home-in-room-requires
+home-in-room-requires c κs =
     let e = c .before .before .before .before .before .before .before .before .before .before .before .before .before .before .before .before .before .before .before .before .before .before in
     (omega (arith, e .pre .1 .1 .1 .0, e .pre .1 .1 .1 .1), omega (arith, e .pre .1 .1 .1 .1, c .before .before .words .ensures .room))
 
@@ -59,8 +59,8 @@ returns-3 c =
     let a = e .args in
     let v = c .before .before .before .before .before .before .before .before .before .before .before .before .before .before .before .before .before .before .before .event-at in
     let w = c .before .before .before .words in
-    said-words (a .text .now) (a .queue .now) (a .n) (a .d) (a .labels .now) (a .used) (e .pre .1 .1 .1 .0) (v .result) (v .ensures)
-    (w .result) _ _ (a .fits) (e .pre .1 .0) (c .before .before .before .before .before .before .before .if3 .taken) (not-false _ (c .before .before .before .before .before .before .before .before .if2 .left)) (w .ensures) (c .shelve .ensures)
+    stands-words (a .text .now) (a .queue .now) (a .n) (a .d) (a .labels .now) (a .used) (e .pre .1 .1 .1 .0) (v .result) (v .ensures)
+    (w .result) _ _ (a .fits) (e .pre .1 .0) (c .before .before .before .before .before .before .before .if3 .taken) (not-false _ (c .before .before .before .before .before .before .before .before .if2 .left)) (w .ensures) (c .home-in-room .ensures)
 
 add-lines : tie.Need-add-lines
 add-lines c = search needs
@@ -70,8 +70,8 @@ lines-requires c κs =
     let e = c .before .before .before .before .before .before .before .before .before .before .before .before .before .before .before .before .before .before in
     (e .pre .0, e .pre .1 .1 .1 .0)
 
-shelve-requires-2 : tie.Need-shelve-requires-2
-shelve-requires-2 c κs =
+home-in-room-requires-2 : tie.Need-home-in-room-requires-2
+home-in-room-requires-2 c κs =
     let e = c .before .before .before .before .before .before .before .before .before .before .before .before .before .before .before .before .before .before .before .before .before in
     (omega (arith, e .pre .1 .1 .1 .0, e .pre .1 .1 .1 .1), omega (arith, e .pre .1 .1 .1 .1, c .before .before .lines .ensures .room))
 
@@ -84,9 +84,9 @@ returns-4 c =
     let a = e .args in
     let v = c .before .before .before .before .before .before .before .before .before .before .before .before .before .before .before .before .before .before .event-at in
     let w = c .before .before .before .lines in
-    said-lines (a .text .now) (a .queue .now) (a .n) (a .d) (a .labels .now) (a .used) (e .pre .1 .1 .1 .0) (v .result) (v .ensures)
+    stands-lines (a .text .now) (a .queue .now) (a .n) (a .d) (a .labels .now) (a .used) (e .pre .1 .1 .1 .0) (v .result) (v .ensures)
     _ (c .before .before .before .before .before .before .before .before .before .before .wide .ensures) (c .before .before .before .before .before .before .if3 .left) (c .before .before .before .before .before .before .before .before .if1 .left) (w .result) _ _ (a .fits) (not-false _ (c .before .before .before .before .before .before .before .if2 .left)) (w .ensures)
-    (c .shelve2 .ensures)
+    (c .home-in-room2 .ensures)
 
 pub label-of-spec : {M : Type 1} → statement M
 label-of-spec =
@@ -101,11 +101,11 @@ label-of-spec =
     add-words
     sub-words
     words-requires
-    shelve-requires
+    home-in-room-requires
     same-length
     returns-3
     add-lines
     lines-requires
-    shelve-requires-2
+    home-in-room-requires-2
     same-length-2
     returns-4)

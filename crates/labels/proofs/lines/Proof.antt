@@ -9,8 +9,8 @@ use borrow.Author.Tests.{not-true, not-false}
 use lib.ListN.{drop}
 use Rattle.reading.specs.Labels.{stretches, pieces, separator}
 use Rattle.rooms.specs.Records.{events}
-use Rattle.labels.specs.Building.{Filled}
-use Rattle.labels.proofs.Filling.{filled-none, filled-stuck}
+use Rattle.labels.specs.Building.{Appended}
+use Rattle.labels.proofs.Appending.{filled-none, filled-stuck}
 use Rattle.labels.proofs.Joining.{lines-turn, lines-last}
 use Rattle.labels.proofs.lines.Statement.{statement}
 use Rattle.labels.proofs.lines.Tie as tie
@@ -18,7 +18,7 @@ use Rattle.labels.proofs.lines.Tie as tie
 abbrev Inv-loop : tie.InvT-loop
 Inv-loop text queue from n end labels₀ used inline j₀ at₀ i₀ labels j at i =
     (j .fits ≡ true)
-    × Filled labels₀ used (λ y. pieces (separator inline) false false (stretches text end (drop from (events n queue))))
+    × Appended labels₀ used (λ y. pieces (separator inline) false false (stretches text end (drop from (events n queue))))
     labels (j .used) (j .fits) (λ y. pieces (separator inline) (j .begun) (j .apart) (stretches text at (drop i (events n queue))))
 
 abbrev μ-loop : tie.MeasureT-loop

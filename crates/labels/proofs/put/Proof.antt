@@ -1,6 +1,6 @@
 -- `labels::put` meets its contract: one byte, or no room for it.
 use borrow.Author.Needs.{needs}
-use Rattle.labels.proofs.Filling.{filled-one, filled-full}
+use Rattle.labels.proofs.Appending.{filled-one, filled-full}
 use Rattle.labels.proofs.put.Statement.{statement}
 use Rattle.labels.proofs.put.Tie as tie
 

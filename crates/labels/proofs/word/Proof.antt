@@ -2,7 +2,7 @@
 use mathlib.Core.Bool.{true}
 use mathlib.Core.Path.{refl}
 use borrow.Author.Needs.{needs}
-use Rattle.labels.proofs.Filling.{filled-none}
+use Rattle.labels.proofs.Appending.{filled-none}
 use Rattle.labels.proofs.Parts.{word-none, word-space, word-part}
 use Rattle.labels.proofs.word.Statement.{statement}
 use Rattle.labels.proofs.word.Tie as tie

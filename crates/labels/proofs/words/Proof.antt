@@ -9,8 +9,8 @@ use borrow.Author.Tests.{not-true, not-false}
 use lib.ListN.{drop}
 use Rattle.reading.specs.Labels.{words as wordsOf}
 use Rattle.rooms.specs.Records.{events}
-use Rattle.labels.specs.Building.{Filled}
-use Rattle.labels.proofs.Filling.{filled-none, filled-stuck}
+use Rattle.labels.specs.Building.{Appended}
+use Rattle.labels.proofs.Appending.{filled-none, filled-stuck}
 use Rattle.labels.proofs.Parts.{words-turn, words-last}
 use Rattle.labels.proofs.words.Statement.{statement}
 use Rattle.labels.proofs.words.Tie as tie
@@ -18,7 +18,7 @@ use Rattle.labels.proofs.words.Tie as tie
 abbrev Inv-loop : tie.InvT-loop
 Inv-loop text queue from n labels₀ used built₀ i₀ labels built i =
     (built .fits ≡ true)
-    × Filled labels₀ used (λ y. wordsOf text (drop from (events n queue))) labels (built .used) (built .fits) (λ y. wordsOf text (drop i (events n queue)))
+    × Appended labels₀ used (λ y. wordsOf text (drop from (events n queue))) labels (built .used) (built .fits) (λ y. wordsOf text (drop i (events n queue)))
 
 abbrev μ-loop : tie.MeasureT-loop
 μ-loop text queue from n labels₀ used built₀ i₀ labels built i = n - i

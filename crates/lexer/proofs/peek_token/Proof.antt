@@ -25,7 +25,7 @@ unfolding code.routine tablesOf
 peek-token-spec 𝓤 H 𝓜 𝓖 𝓡 =
     entered 𝓤 H (tripleOf 𝓤 H (𝓖 .A) shown.signature (shown.spec 𝓤 H (𝓖 .A) (𝓜 .mem) (𝓡 .run)))
     (tables 𝓤 H 𝓜 𝓡 code.env .C) (tables 𝓤 H 𝓜 𝓡 code.env .Λ) #lexer·peek-token code.function (code.unfolded 𝓤 H 𝓜 𝓡)
-    (meets 𝓤 H (𝓖 .A) (𝓜 .mem) (𝓡 .run) peekOf (givenOf 𝓤 H 𝓜 𝓖) #lexer·peek (λ κs s c r. shown.clauses 𝓤 H (𝓖 .A) (𝓜 .mem) (𝓡 .run) κs (s, (c, tt)) .ensures tt r (s, (c, tt))) (λ κs s c r. refl) (tablesOf 𝓤 H 𝓜 (tables 𝓤 H 𝓜 𝓡 code.env))
+    (meets 𝓤 H (𝓖 .A) (𝓜 .mem) (𝓡 .run) peekOf (givenOf 𝓤 H 𝓜 𝓖) #lexer·peek (λ κs a r. shown.clauses 𝓤 H (𝓖 .A) (𝓜 .mem) (𝓡 .run) κs a .ensures tt r a) (λ κs a r. refl) (tablesOf 𝓤 H 𝓜 (tables 𝓤 H 𝓜 𝓡 code.env))
     (cited 𝓤 H (New 𝓤 H (𝓖 .A) (𝓜 .mem) (𝓡 .run)) 𝓜 𝓡 code.env #lexer·new new-def.routine code.calls-lexer·Lexer·new (new-thm.met 𝓤 H 𝓜 𝓖 𝓡))
     (cited 𝓤 H (At 𝓤 H (𝓖 .A) (𝓜 .mem) (𝓡 .run)) 𝓜 𝓡 code.env #lexer·at at-def.routine code.calls-lexer·Lexer·at (at-thm.met 𝓤 H 𝓜 𝓖 𝓡))
     (cited 𝓤 H (Answer 𝓤 H (𝓖 .A) peekOf) 𝓜 𝓡 code.env #lexer·peek peek-def.routine code.calls-lexer·Lexer·peek (peek-thm.met 𝓤 H 𝓜 𝓖 𝓡)))

@@ -1,8 +1,8 @@
 -- `mivurakol::mivurakol_label` meets its contract, by the laws of `Parts`.
 use borrow.Author.Needs.{needs}
 use lib.ListN.{length}
-use Rattle.reader.proofs.Looking.{found-in}
-use Rattle.mivurakol.proofs.Parts.{part-none, part-some, part-told, some-found}
+use Rattle.lookup.proofs.Looking.{found-in}
+use Rattle.mivurakol.proofs.Parts.{part-none, part-some, part-found, some-found}
 use Rattle.mivurakol.proofs.mivurakol_label.Statement.{statement}
 use Rattle.mivurakol.proofs.mivurakol_label.Tie as tie
 
@@ -14,7 +14,7 @@ returns c =
     let args = c .before .before .before .before .args in
     let home-of = c .before .home-of in
     let if1 = c .if1 in
-    part-told (args .text .now) (args .labels .now) (args .home) (args .start) (args .end) (home-of .result) _ (home-of .ensures) (part-none (home-of .result) (args .start) (args .end) (if1 .taken))
+    part-found (args .text .now) (args .labels .now) (args .home) (args .start) (args .end) (home-of .result) _ (home-of .ensures) (part-none (home-of .result) (args .start) (args .end) (if1 .taken))
 
 sub-t9 : tie.Need-sub-t9
 sub-t9 c =
@@ -28,7 +28,7 @@ returns-2 c =
     let args = c .before .before .before .before .args in
     let home-of = c .before .home-of in
     let if1 = c .if1 in
-    part-told (args .text .now) (args .labels .now) (args .home) (args .start) (args .end) (home-of .result) _ (home-of .ensures) (part-some (home-of .result) (args .start) (args .end) (if1 .left))
+    part-found (args .text .now) (args .labels .now) (args .home) (args .start) (args .end) (home-of .result) _ (home-of .ensures) (part-some (home-of .result) (args .start) (args .end) (if1 .left))
 
 pub mivurakol-label-spec : {M : Type 1} → statement M
 mivurakol-label-spec = tie.close (tie.spec home-of-requires returns sub-t9 returns-2)

@@ -1,11 +1,9 @@
 -- `outside::noted` meets its contract, by the laws of `Ahead` and `Alone`.
-use mathlib.Core.Path.{refl, sym, _∙_}
+use mathlib.Core.Path.{sym, _∙_}
 use native.Mathlib.Omega.{arith}
 use borrow.Author.Needs.{needs}
 use lib.ListN.{drop}
 use Rattle.scan.proofs.Laws.{footnote-some}
-use Rattle.links.specs.Linked.{sheetOf}
-use Rattle.reading.specs.Tokens.{bracket}
 use Rattle.rooms.specs.Standing.{viewed, here}
 use Rattle.outside.proofs.Ahead.{scan-within, noted-else, noted-some}
 use Rattle.outside.proofs.Alone.{opening}
@@ -31,24 +29,22 @@ same-length-2 : tie.Need-same-length-2
 same-length-2 c = search needs
 
 returns : tie.Need-returns
-returns c rules =
-    let args = c .before .before .before .before .before .before .before .before .before .before .before .before .before .before .before .args in
+returns c x =
+    let args = c .before .before .before .before .before .before .before .before .before .before .before .before .before .args in
     let open-as = c .before .before .before .before .open-as in
     let ahead-footnote = c .before .before .before .before .before .before .before .before .before .ahead-footnote in
     let enum-told = c .before .before .before .before .before .before .before .enum-told in
-    let pre = c .before .before .before .before .before .before .before .before .before .before .before .before .before .before .before .pre in
-    let x = sheetOf rules (args .text .now) (args .labels .now) in
     let v = viewed (args .m) (args .line .now) in
-    noted-else x v (here (args .h) (args .p)) (args .p) (args .queue .now) (args .openers .now) (args .labels .now) (open-as .result) (open-as .last .1 .1 .1 .1 .1 .0) (open-as .last .1 .1 .1 .1 .1 .1 .0) (args .labels .now)
-    _ (sym (ahead-footnote .ensures) ∙ enum-told .given .1) bracket refl
-    (opening x v (args .h) (args .p) (args .queue .now) (args .openers .now) (args .labels .now) (pre .1 .labels) (open-as .result) (open-as .last .1 .1 .1 .1 .1 .0) (open-as .last .1 .1 .1 .1 .1 .1 .0) (open-as .ensures))
+    noted-else x v (here (args .h) (args .p)) (args .p) (args .queue .now) (args .openers .now) (open-as .result) (open-as .last .1 .1 .1 .1 .1 .0) (open-as .last .1 .1 .1 .1 .1 .1 .0)
+    _ (sym (ahead-footnote .ensures) ∙ enum-told .given .1)
+    (opening x v (args .h) (args .p) (args .queue .now) (args .openers .now) (open-as .result) (open-as .last .1 .1 .1 .1 .1 .0) (open-as .last .1 .1 .1 .1 .1 .1 .0) (open-as .ensures))
 
 named-requires : tie.Need-named-requires
 named-requires c κs =
-    let pre = c .before .before .before .before .before .before .before .before .before .before .pre in
+    let pre = c .before .before .before .before .before .before .before .before .pre in
     let ahead-footnote = c .before .before .before .before .ahead-footnote in
     let n = c .before .before .n in
-    let args = c .before .before .before .before .before .before .before .before .before .before .args in
+    let args = c .before .before .before .before .before .before .before .before .args in
     let r = pre .0 in
     let e = sym (ahead-footnote .ensures) ∙ n .given .1 in
     let s = drop (args .h .to) (args .line .now) in
@@ -59,14 +55,13 @@ same-length-3 : tie.Need-same-length-3
 same-length-3 c = search needs
 
 returns-2 : tie.Need-returns-2
-returns-2 c rules =
-    let args = c .before .before .before .before .before .before .before .before .before .before .before .before .before .args in
+returns-2 c x =
+    let args = c .before .before .before .before .before .before .before .before .before .before .before .args in
     let named = c .before .before .named in
-    let pre = c .before .before .before .before .before .before .before .before .before .before .before .before .before .pre in
     let ahead-footnote = c .before .before .before .before .before .before .before .ahead-footnote in
     let n = c .before .before .before .before .before .n in
-    noted-some (sheetOf rules (args .text .now) (args .labels .now)) (viewed (args .m) (args .line .now)) (here (args .h) (args .p)) (args .p) (args .queue .now) (args .openers .now) (args .labels .now) (named .result) (named .last .1 .1 .1 .1 .1 .0) (pre .1 .labels) _
-    _ (sym (ahead-footnote .ensures) ∙ n .given .1) (named .ensures (args .openers .now) (args .line .now))
+    noted-some x (viewed (args .m) (args .line .now)) (here (args .h) (args .p)) (args .p) (args .queue .now) (args .openers .now) (named .result) (named .last .1 .1 .1 .1 .1 .0) (args .openers .now)
+    _ _ (sym (ahead-footnote .ensures) ∙ n .given .1) (named .ensures (args .openers .now) (args .line .now))
 
 pub noted-spec : {M : Type 1} → statement M
 noted-spec =

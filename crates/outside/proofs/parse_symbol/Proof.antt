@@ -1,12 +1,9 @@
 -- `outside::parse_symbol` meets its contract, by the laws of `Ahead` and `Alone`.
-use mathlib.Core.Path.{refl, sym, _∙_}
+use mathlib.Core.Path.{sym, _∙_}
 use native.Mathlib.Omega.{arith}
 use borrow.Author.Needs.{needs}
 use lib.ListN.{drop}
 use Rattle.scan.proofs.Laws.{symbol-some}
-use Rattle.links.specs.Linked.{sheetOf}
-use Rattle.reading.specs.Events.{str}
-use Rattle.reading.specs.Tokens.{plain}
 use Rattle.rooms.specs.Standing.{viewed, here}
 use Rattle.outside.proofs.Ahead.{scan-within, colon-else, colon-some}
 use Rattle.outside.proofs.Alone.{alone}
@@ -29,24 +26,22 @@ same-length : tie.Need-same-length
 same-length c = search needs
 
 returns : tie.Need-returns
-returns c rules =
-    let args = c .before .before .before .before .before .before .before .before .before .before .before .before .args in
+returns c x o =
+    let args = c .before .before .before .before .before .before .before .before .before .args in
     let put = c .before .before .put in
     let ahead-symbol = c .before .before .before .before .before .before .ahead-symbol in
     let enum-told = c .before .before .before .before .enum-told in
-    let pre = c .before .before .before .before .before .before .before .before .before .before .before .before .pre in
-    let x = sheetOf rules (args .text .now) (args .labels .now) in
     let v = viewed (args .m) (args .line .now) in
-    colon-else x v (here (args .h) (args .p)) (args .p) (args .queue .now) (args .openers .now) (args .labels .now) (put .result) (put .last .1 .1 .1 .1 .1 .0) (args .openers .now) (args .labels .now)
-    _ (sym (ahead-symbol .ensures) ∙ enum-told .given .1) (plain str) refl
-    (alone x v (args .h) (args .p) (args .queue .now) (args .openers .now) (args .labels .now) (pre .1 .labels) (put .result) (put .last .1 .1 .1 .1 .1 .0) (put .ensures (args .openers .now)))
+    colon-else x v (here (args .h) (args .p)) (args .p) (args .queue .now) o (put .result) (put .last .1 .1 .1 .1 .1 .0) o
+    (sym (ahead-symbol .ensures) ∙ enum-told .given .1)
+    (alone x v (args .h) (args .p) (args .queue .now) o (put .result) (put .last .1 .1 .1 .1 .1 .0) (put .ensures o))
 
 named-requires : tie.Need-named-requires
 named-requires c κs =
-    let pre = c .before .before .before .before .before .before .before .before .before .before .pre in
+    let pre = c .before .before .before .before .before .before .before .pre in
     let ahead-symbol = c .before .before .before .before .ahead-symbol in
     let n = c .before .before .n in
-    let args = c .before .before .before .before .before .before .before .before .before .before .args in
+    let args = c .before .before .before .before .before .before .before .args in
     let r = pre .0 in
     let e = sym (ahead-symbol .ensures) ∙ n .given .1 in
     let s = drop (args .h .to) (args .line .now) in
@@ -57,14 +52,13 @@ same-length-2 : tie.Need-same-length-2
 same-length-2 c = search needs
 
 returns-2 : tie.Need-returns-2
-returns-2 c rules =
-    let args = c .before .before .before .before .before .before .before .before .before .before .before .before .before .args in
+returns-2 c x o =
+    let args = c .before .before .before .before .before .before .before .before .before .before .args in
     let named = c .before .before .named in
-    let pre = c .before .before .before .before .before .before .before .before .before .before .before .before .before .pre in
     let ahead-symbol = c .before .before .before .before .before .before .before .ahead-symbol in
     let n = c .before .before .before .before .before .n in
-    colon-some (sheetOf rules (args .text .now) (args .labels .now)) (viewed (args .m) (args .line .now)) (here (args .h) (args .p)) (args .p) (args .queue .now) (args .openers .now) (args .labels .now) (named .result) (named .last .1 .1 .1 .1 .1 .0) (pre .1 .labels) _
-    _ (sym (ahead-symbol .ensures) ∙ n .given .1) (named .ensures (args .openers .now) (args .line .now))
+    colon-some x (viewed (args .m) (args .line .now)) (here (args .h) (args .p)) (args .p) (args .queue .now) o (named .result) (named .last .1 .1 .1 .1 .1 .0) o
+    _ (sym (ahead-symbol .ensures) ∙ n .given .1) (named .ensures o (args .line .now))
 
 pub parse-symbol-spec : {M : Type 1} → statement M
 parse-symbol-spec =

@@ -1,7 +1,7 @@
 -- `reader::judge` meets its contract, by the laws of `Calling`.
 use mathlib.Core.Path.{_∙_}
 use borrow.Author.Needs.{needs}
-use Rattle.reader.specs.Telling.{lent}
+use Rattle.outcome.specs.Outcomes.{rooms-of}
 use Rattle.rooms.specs.Standing.{stands}
 use Rattle.reader.proofs.Calling.{judged-code, judged-none}
 use Rattle.reader.proofs.judge.Statement.{statement}
@@ -35,7 +35,7 @@ returns c =
     let brace-of = c .before .before .before .before .before .before .before .before .before .before .before .before .before .before .before .brace-of in
     let last-code = c .before .before .before .before .before .before .before .before .before .before .before .before .before .before .last-code in
     let if1 = c .before .before .before .before .before .before .before .before .before .before .before .before .before .if1 in
-    refuse .ensures ∙ judged-code (args .p .refused) (args .p .fits) (stands (args .p) (args .queue .now) (args .openers .now) (args .labels .now)) (lent (args .events .now) (args .queue .now) (args .openers .now) (args .labels .now)) (brace-of .result) (brace-of .ensures) (last-code .result) (last-code .ensures) (if1 .taken)
+    refuse .ensures ∙ judged-code (args .p .refused) (args .p .fits) (stands (args .p) (args .queue .now) (args .openers .now) (args .labels .now)) (rooms-of (args .events .now) (args .queue .now) (args .openers .now) (args .labels .now)) (brace-of .result) (brace-of .ensures) (last-code .result) (last-code .ensures) (if1 .taken)
 
 hand-out-requires : tie.Need-hand-out-requires
 hand-out-requires c κs =
@@ -44,7 +44,7 @@ hand-out-requires c κs =
     let last-code = c .before .before .before .before .before .last-code in
     let if1 = c .before .before .before .before .if1 in
     let pre = c .before .before .before .before .before .before .before .before .before .before .before .pre in
-    (judged-none (args .p .refused) (args .p .fits) (stands (args .p) (args .queue .now) (args .openers .now) (args .labels .now)) (lent (args .events .now) (args .queue .now) (args .openers .now) (args .labels .now)) (brace-of .result) (brace-of .ensures) (last-code .result) (last-code .ensures) (if1 .left) .0, pre)
+    (judged-none (args .p .refused) (args .p .fits) (stands (args .p) (args .queue .now) (args .openers .now) (args .labels .now)) (rooms-of (args .events .now) (args .queue .now) (args .openers .now) (args .labels .now)) (brace-of .result) (brace-of .ensures) (last-code .result) (last-code .ensures) (if1 .left) .0, pre)
 
 same-length-5 : tie.Need-same-length-5
 same-length-5 c = search needs
@@ -65,7 +65,7 @@ returns-2 c =
     let brace-of = c .before .before .before .before .before .before .before .before .before .before .before .before .before .before .before .brace-of in
     let last-code = c .before .before .before .before .before .before .before .before .before .before .before .before .before .before .last-code in
     let if1 = c .before .before .before .before .before .before .before .before .before .before .before .before .before .if1 in
-    hand-out .ensures ∙ judged-none (args .p .refused) (args .p .fits) (stands (args .p) (args .queue .now) (args .openers .now) (args .labels .now)) (lent (args .events .now) (args .queue .now) (args .openers .now) (args .labels .now)) (brace-of .result) (brace-of .ensures) (last-code .result) (last-code .ensures) (if1 .left) .1
+    hand-out .ensures ∙ judged-none (args .p .refused) (args .p .fits) (stands (args .p) (args .queue .now) (args .openers .now) (args .labels .now)) (rooms-of (args .events .now) (args .queue .now) (args .openers .now) (args .labels .now)) (brace-of .result) (brace-of .ensures) (last-code .result) (last-code .ensures) (if1 .left) .1
 
 pub judge-spec : {M : Type 1} → statement M
 judge-spec =

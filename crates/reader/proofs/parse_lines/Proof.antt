@@ -4,7 +4,7 @@ use borrow.Author.Needs.{needs}
 use lib.ListN.{length}
 use lib.Seq.{length-take-le}
 use Rattle.inline.specs.Lines.{lines-of}
-use Rattle.reader.proofs.Asking.{passed-paired}
+use Rattle.questions.proofs.Asking.{passed-paired}
 use Rattle.reader.proofs.Ending.{counting-within, sheeted, stood}
 use Rattle.reader.proofs.parse_lines.Statement.{statement}
 use Rattle.reader.proofs.parse_lines.Tie as tie

@@ -1,13 +1,12 @@
 -- `records::check_lines` meets its contract, by the laws of `Walking`.
-mod Lts
-mod Tie
 use mathlib.Core.Path.{sym, _∙_}
 use Prim.Native.Nat.{_-_}
 use native.Mathlib.Omega.{arith}
 use borrow.Author.Needs.{needs}
-use Rattle.reader.proofs.Walking.{found, Going, going-first, going-on, going-out, going-end}
+use Rattle.questions.proofs.Walking.{found, Going, going-first, going-on, going-out, going-end}
+use Rattle.records.proofs.check_lines.Code.{routine}
 use Rattle.records.proofs.check_lines.Statement.{statement}
-use Rattle.records.proofs.check_lines.Proof.Tie as tie
+use Rattle.records.proofs.Twin.check_lines.Tie as tie
 
 abbrev Inv-loop : tie.InvT-loop
 Inv-loop text lines n w₀ i₀ w i = Going text lines n w i
@@ -98,6 +97,7 @@ returns-2 c =
     found (args .text .now) (args .lines .now) (pre .0) (pre .1) _ (all-walked .ensures ∙ going-end (args .text .now) (args .lines .now) (line-count .result) (loop .i) (loop .w) (loop .inv) (omega (arith, loop-test .left, line-count .ensures)))
 
 pub check-lines-spec : {M : Type 1} → statement M
+unfolding routine
 check-lines-spec =
     tie.close
     (tie.spec

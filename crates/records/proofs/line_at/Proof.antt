@@ -1,11 +1,10 @@
 -- `records::line_at` meets its contract.
-mod Lts
-mod Tie
 use mathlib.Core.Path.{refl}
 use native.Mathlib.Omega.{arith}
 use borrow.Author.Needs.{needs}
+use Rattle.records.proofs.line_at.Code.{routine}
 use Rattle.records.proofs.line_at.Statement.{statement}
-use Rattle.records.proofs.line_at.Proof.Tie as tie
+use Rattle.records.proofs.Twin.line_at.Tie as tie
 
 mul-result : tie.Need-mul-result
 mul-result c =
@@ -20,4 +19,5 @@ returns c =
     refl
 
 pub line-at-spec : {M : Type 1} → statement M
+unfolding routine
 line-at-spec = tie.close (tie.spec mul-result shared-slice-copy-out-result returns)

@@ -1,21 +1,24 @@
 -- `records::parse` meets its contract, by the laws of `Sheets`.
-mod Lts
-mod Tie
 use Prim.Native.Nat.{_-_}
 use native.Mathlib.Omega.{arith}
 use borrow.Author.Needs.{needs}
 use Rattle.inline.proofs.Sheets.{Head, head-first, head-fed, head-next, end-small, end-room, end-closing, head-last}
+use Rattle.records.proofs.parse.Code.{routine}
 use Rattle.records.proofs.parse.Statement.{statement}
-use Rattle.records.proofs.parse.Proof.Tie as tie
+use Rattle.records.proofs.Twin.parse.Tie as tie
 
 abbrev Inv-loop : tie.InvT-loop
-Inv-loop text lines reading queue₀ openers₀ labels₀ n p₀ end₀ i₀ queue openers labels p end i = Head text lines reading queue₀ openers₀ labels₀ queue openers labels p end i
+Inv-loop text lines reading queue₀ openers₀ labels₀ n flags p₀ end₀ i₀ queue openers labels p end i = Head text lines reading queue₀ openers₀ labels₀ queue openers labels p end i
 
 abbrev μ-loop : tie.MeasureT-loop
-μ-loop text lines reading queue₀ openers₀ labels₀ n p₀ end₀ i₀ queue openers labels p end i = n - i
+μ-loop text lines reading queue₀ openers₀ labels₀ n flags p₀ end₀ i₀ queue openers labels p end i = n - i
 
 line-count-requires : tie.Need-line-count-requires Inv-loop μ-loop
 line-count-requires c κs =
+    search needs
+
+classes-requires : tie.Need-classes-requires Inv-loop μ-loop
+classes-requires c κs =
     search needs
 
 fresh-requires : tie.Need-fresh-requires Inv-loop μ-loop
@@ -24,57 +27,58 @@ fresh-requires c κs =
 
 loop-holds : tie.Need-loop-holds Inv-loop μ-loop
 loop-holds c =
-    let args = c .before .before .before .before .before .before .args in
-    let pre = c .before .before .before .before .before .before .pre in
+    let args = c .before .before .before .before .before .before .before .args in
+    let pre = c .before .before .before .before .before .before .before .pre in
     let fresh = c .fresh in
     head-first (args .text .now) (args .lines .now) (args .reading) (args .queue .now) (args .openers .now) (args .labels .now) pre (fresh .result) (fresh .ensures .0) (fresh .ensures .1 .0)
 
 line-at-requires : tie.Need-line-at-requires Inv-loop μ-loop
 line-at-requires c κs =
     let loop-test = c .loop-test in
-    let line-count = c .before .before .before .line-count in
+    let line-count = c .before .before .before .before .line-count in
     omega (arith, loop-test .taken, line-count .ensures)
 
 feed-line-requires : tie.Need-feed-line-requires Inv-loop μ-loop
 feed-line-requires c κs =
-    let args = c .before .before .before .before .before .before .before .before .before .before .before .before .args in
-    let pre = c .before .before .before .before .before .before .before .before .before .before .before .before .pre in
-    let loop = c .before .before .before .before .before .loop in
-    let loop-test = c .before .before .before .before .loop-test in
-    let line-count = c .before .before .before .before .before .before .before .line-count in
-    let line-at = c .before .before .before .line-at in
-    head-fed (args .text .now) (args .lines .now) (args .reading) (args .queue .now) (args .openers .now) (args .labels .now) pre (loop .queue) (loop .openers) (loop .labels) (loop .p) (loop .end) (loop .i) (loop .inv) (omega (arith, loop-test .taken, line-count .ensures)) (line-at .result) (line-at .ensures)
+    let args = c .before .before .before .before .before .before .before .before .before .before .before .before .before .before .args in
+    let pre = c .before .before .before .before .before .before .before .before .before .before .before .before .before .before .pre in
+    let loop = c .before .before .before .before .before .before .loop in
+    let loop-test = c .before .before .before .before .before .loop-test in
+    let classes = c .before .before .before .before .before .before .before .before .classes in
+    let line-count = c .before .before .before .before .before .before .before .before .before .line-count in
+    let line-at = c .before .before .before .before .line-at in
+    (head-fed (args .text .now) (args .lines .now) (args .reading) (args .queue .now) (args .openers .now) (args .labels .now) pre (loop .queue) (loop .openers) (loop .labels) (loop .p) (loop .end) (loop .i) (loop .inv) (omega (arith, loop-test .taken, line-count .ensures)) (line-at .result) (line-at .ensures), classes .ensures)
 
 add-i : tie.Need-add-i Inv-loop μ-loop
 add-i c =
-    let loop-test = c .before .before .before .before .before .before .before .before .before .before .before .loop-test in
-    let line-count = c .before .before .before .before .before .before .before .before .before .before .before .before .before .before .line-count in
-    let pre = c .before .before .before .before .before .before .before .before .before .before .before .before .before .before .before .before .before .before .before .pre in
+    let loop-test = c .before .before .before .before .before .before .before .before .before .before .before .before .loop-test in
+    let line-count = c .before .before .before .before .before .before .before .before .before .before .before .before .before .before .before .before .line-count in
+    let pre = c .before .before .before .before .before .before .before .before .before .before .before .before .before .before .before .before .before .before .before .before .before .pre in
     omega (arith, loop-test .taken, line-count .ensures, pre .listed)
 
 loop-less : tie.Need-loop-less Inv-loop μ-loop
 loop-less c =
-    let loop-test = c .before .before .before .before .before .before .before .before .before .before .before .loop-test in
+    let loop-test = c .before .before .before .before .before .before .before .before .before .before .before .before .loop-test in
     omega (arith, loop-test .taken)
 
 loop-again : tie.Need-loop-again Inv-loop μ-loop
 loop-again c =
-    let args = c .before .before .before .before .before .before .before .before .before .before .before .before .before .before .before .before .before .before .before .args in
-    let pre = c .before .before .before .before .before .before .before .before .before .before .before .before .before .before .before .before .before .before .before .pre in
-    let loop = c .before .before .before .before .before .before .before .before .before .before .before .before .loop in
-    let loop-test = c .before .before .before .before .before .before .before .before .before .before .before .loop-test in
-    let line-count = c .before .before .before .before .before .before .before .before .before .before .before .before .before .before .line-count in
-    let line-at = c .before .before .before .before .before .before .before .before .before .before .line-at in
+    let args = c .before .before .before .before .before .before .before .before .before .before .before .before .before .before .before .before .before .before .before .before .before .args in
+    let pre = c .before .before .before .before .before .before .before .before .before .before .before .before .before .before .before .before .before .before .before .before .before .pre in
+    let loop = c .before .before .before .before .before .before .before .before .before .before .before .before .before .loop in
+    let loop-test = c .before .before .before .before .before .before .before .before .before .before .before .before .loop-test in
+    let line-count = c .before .before .before .before .before .before .before .before .before .before .before .before .before .before .before .before .line-count in
+    let line-at = c .before .before .before .before .before .before .before .before .before .before .before .line-at in
     let feed-line = c .before .before .before .before .before .before .feed-line in
     head-next (args .text .now) (args .lines .now) (args .reading) (args .queue .now) (args .openers .now) (args .labels .now) pre (loop .queue) (loop .openers) (loop .labels) (loop .p) (loop .end) (loop .i) (loop .inv) (omega (arith, loop-test .taken, line-count .ensures)) (line-at .result) (line-at .ensures) (feed-line .result) (feed-line .last .1 .1 .1 .1 .1 .0) (feed-line .last .1 .1 .1 .1 .1 .1 .0) (feed-line .last .1 .1 .1 .1 .1 .1 .1 .0) (feed-line .ensures) (feed-line .kept .1 .1 .1 .1 .1 .0) (feed-line .kept .1 .1 .1 .1 .1 .1 .0) (feed-line .kept .1 .1 .1 .1 .1 .1 .1 .0)
 
 finish-requires : tie.Need-finish-requires Inv-loop μ-loop
 finish-requires c κs =
-    let args = c .before .before .before .before .before .before .before .before .before .args in
-    let pre = c .before .before .before .before .before .before .before .before .before .pre in
+    let args = c .before .before .before .before .before .before .before .before .before .before .args in
+    let pre = c .before .before .before .before .before .before .before .before .before .before .pre in
     let loop = c .before .before .loop in
     let loop-test = c .before .loop-test in
-    let line-count = c .before .before .before .before .line-count in
+    let line-count = c .before .before .before .before .before .line-count in
     (end-small (args .text .now) (args .lines .now) (args .reading) (args .queue .now) (args .openers .now) (args .labels .now) pre (loop .queue) (loop .openers) (loop .labels) (loop .p) (loop .end) (loop .i) (loop .inv) (omega (arith, loop-test .left, line-count .ensures)), (end-room (args .text .now) (args .lines .now) (args .reading) (args .queue .now) (args .openers .now) (args .labels .now) pre (loop .queue) (loop .openers) (loop .labels) (loop .p) (loop .end) (loop .i) (loop .inv) (omega (arith, loop-test .left, line-count .ensures)), end-closing (args .text .now) (args .lines .now) (args .reading) (args .queue .now) (args .openers .now) (args .labels .now) pre (loop .queue) (loop .openers) (loop .labels) (loop .p) (loop .end) (loop .i) (loop .inv) (omega (arith, loop-test .left, line-count .ensures))))
 
 same-length : tie.Need-same-length Inv-loop μ-loop
@@ -95,21 +99,23 @@ same-length-3 c =
 
 returns : tie.Need-returns Inv-loop μ-loop
 returns c =
-    let args = c .before .before .before .before .before .before .before .before .before .before .before .before .args in
-    let pre = c .before .before .before .before .before .before .before .before .before .before .before .before .pre in
+    let args = c .before .before .before .before .before .before .before .before .before .before .before .before .before .args in
+    let pre = c .before .before .before .before .before .before .before .before .before .before .before .before .before .pre in
     let loop = c .before .before .before .before .before .loop in
     let loop-test = c .before .before .before .before .loop-test in
-    let line-count = c .before .before .before .before .before .before .before .line-count in
+    let line-count = c .before .before .before .before .before .before .before .before .line-count in
     let finish = c .before .before .finish in
     head-last (args .text .now) (args .lines .now) (args .reading) (args .queue .now) (args .openers .now) (args .labels .now) pre (loop .queue) (loop .openers) (loop .labels) (loop .p) (loop .end) (loop .i) (loop .inv) (omega (arith, loop-test .left, line-count .ensures)) (finish .result) (finish .last .1 .1 .0) (finish .ensures (loop .openers))
 
 pub parse-spec : {M : Type 1} → statement M
+unfolding routine
 parse-spec =
     tie.close
     (tie.spec
     Inv-loop
     μ-loop
     line-count-requires
+    classes-requires
     fresh-requires
     loop-holds
     line-at-requires

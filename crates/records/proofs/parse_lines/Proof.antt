@@ -1,13 +1,12 @@
 -- `records::parse_lines` meets its contract, by the laws of `Ending`.
-mod Lts
-mod Tie
 use mathlib.Core.Path.{refl, sym}
 use borrow.Author.Needs.{needs}
 use lib.ListN.{length}
 use lib.Seq.{length-take-le}
 use Rattle.reader.proofs.Ending.{counting-within, sheeted, stood}
+use Rattle.records.proofs.parse_lines.Code.{routine}
 use Rattle.records.proofs.parse_lines.Statement.{statement}
-use Rattle.records.proofs.parse_lines.Proof.Tie as tie
+use Rattle.records.proofs.Twin.parse_lines.Tie as tie
 
 counted-requires : tie.Need-counted-requires
 counted-requires c κs = search needs
@@ -49,6 +48,7 @@ returns c =
     stood (args .text .now) (args .lines .now) (args .reading) (args .queue .now) (args .openers .now) (args .labels .now) pre (counted .result) (counted .ensures) (parse .result) (parse .last .1 .1 .1 .0) (parse .last .1 .1 .1 .1 .0) (parse .last .1 .1 .1 .1 .1 .0) _ (parse .ensures) (parse .kept .1 .1 .1 .1 .1 .0) refl
 
 pub parse-lines-spec : {M : Type 1} → statement M
+unfolding routine
 parse-lines-spec =
     tie.close
     (tie.spec

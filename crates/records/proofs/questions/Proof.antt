@@ -1,11 +1,10 @@
 -- `records::questions` meets its contract, by the laws of `Asking`.
-mod Lts
-mod Tie
 use native.Mathlib.Omega.{arith}
 use borrow.Author.Needs.{needs}
-use Rattle.reader.proofs.Asking.{limit-kept, asked-limit, asked-lines}
+use Rattle.questions.proofs.Asking.{limit-kept, asked-limit, asked-lines}
+use Rattle.records.proofs.questions.Code.{routine}
 use Rattle.records.proofs.questions.Statement.{statement}
-use Rattle.records.proofs.questions.Proof.Tie as tie
+use Rattle.records.proofs.Twin.questions.Tie as tie
 
 line-count-requires : tie.Need-line-count-requires
 line-count-requires c κs = search needs
@@ -48,6 +47,7 @@ returns-2 c =
     asked-lines (args .text .now) (args .lines .now) (args .reading) (args .queue) (args .openers) (line-count .result) (limits .result) (line-count .ensures) (limits .ensures) (check-lines .result) _ (if1 .left) (check-lines .ensures .0) (ask-rooms .ensures)
 
 pub questions-spec : {M : Type 1} → statement M
+unfolding routine
 questions-spec =
     tie.close
     (tie.spec

@@ -1,14 +1,13 @@
 -- `records::read` meets its contract, by the laws of `Asking`, `Ending` and `Calling`.
-mod Lts
-mod Tie
 use mathlib.Core.Path.{sym, _∙_}
 use borrow.Author.Needs.{needs}
-use Rattle.reader.specs.Telling.{lent}
-use Rattle.reader.proofs.Asking.{asked-passed}
+use Rattle.outcome.specs.Outcomes.{rooms-of}
+use Rattle.questions.proofs.Asking.{asked-passed}
 use Rattle.reader.proofs.Ending.{parsed}
 use Rattle.reader.proofs.Calling.{owed, refused-early, judged-all}
+use Rattle.records.proofs.read.Code.{routine}
 use Rattle.records.proofs.read.Statement.{statement}
-use Rattle.records.proofs.read.Proof.Tie as tie
+use Rattle.records.proofs.Twin.read.Tie as tie
 
 questions-requires : tie.Need-questions-requires
 questions-requires c κs = search needs
@@ -39,7 +38,7 @@ returns c =
     let args = c .before .before .before .before .before .before .before .before .before .args in
     let questions = c .before .before .before .questions in
     let asked = c .before .asked in
-    owed (args .text .now) (args .lines .now) (args .reading) (lent (args .events .now) (args .queue .now) (args .openers .now) (args .labels .now)) _ (refused-early (args .text .now) (args .lines .now) (args .reading) (args .events .now) (args .queue .now) (args .openers .now) (args .labels .now) (questions .result) (questions .ensures) (asked .given .0 .0) (asked .given .1))
+    owed (args .text .now) (args .lines .now) (args .reading) (rooms-of (args .events .now) (args .queue .now) (args .openers .now) (args .labels .now)) _ (refused-early (args .text .now) (args .lines .now) (args .reading) (args .events .now) (args .queue .now) (args .openers .now) (args .labels .now) (questions .result) (questions .ensures) (asked .given .0 .0) (asked .given .1))
 
 same-length : tie.Need-same-length
 same-length c = search needs
@@ -60,9 +59,10 @@ returns-2 c =
     let parse-lines = c .before .before .before .before .before .before .before .before .before .before .before .before .before .before .before .before .before .before .before .parse-lines in
     let enum-told = c .before .before .before .before .before .before .before .before .before .before .before .before .before .before .before .before .before .before .before .before .before .before .before .enum-told in
     let judge = c .before .before .before .before .before .before .before .before .judge in
-    owed (args .text .now) (args .lines .now) (args .reading) (lent (args .events .now) (args .queue .now) (args .openers .now) (args .labels .now)) _ (judged-all (args .text .now) (args .lines .now) (args .reading) (args .events .now) (args .queue .now) (args .openers .now) (args .labels .now) (questions .result) (questions .ensures) (parse-lines .result) (parse-lines .last .1 .1 .1 .0) (parse-lines .last .1 .1 .1 .1 .0) (parse-lines .last .1 .1 .1 .1 .1 .0) (enum-told .given .1) (parse-lines .ensures .0) (parse-lines .kept .1 .1 .1 .0) (parse-lines .kept .1 .1 .1 .1 .0) (parse-lines .kept .1 .1 .1 .1 .1 .0) _ (judge .ensures))
+    owed (args .text .now) (args .lines .now) (args .reading) (rooms-of (args .events .now) (args .queue .now) (args .openers .now) (args .labels .now)) _ (judged-all (args .text .now) (args .lines .now) (args .reading) (args .events .now) (args .queue .now) (args .openers .now) (args .labels .now) (questions .result) (questions .ensures) (parse-lines .result) (parse-lines .last .1 .1 .1 .0) (parse-lines .last .1 .1 .1 .1 .0) (parse-lines .last .1 .1 .1 .1 .1 .0) (enum-told .given .1) (parse-lines .ensures .0) (parse-lines .kept .1 .1 .1 .0) (parse-lines .kept .1 .1 .1 .1 .0) (parse-lines .kept .1 .1 .1 .1 .1 .0) _ (judge .ensures))
 
 pub read-spec : {M : Type 1} → statement M
+unfolding routine
 read-spec =
     tie.close
     (tie.spec

@@ -18,17 +18,17 @@ number-at-requires-3 c κs = tt
 number-at-requires-4 : tie.Need-number-at-requires-4
 number-at-requires-4 c κs = tt
 
-lent-requires : tie.Need-lent-requires
-lent-requires c κs = tt
+at-most-requires : tie.Need-at-most-requires
+at-most-requires c κs = tt
 
-lent-requires-2 : tie.Need-lent-requires-2
-lent-requires-2 c κs = tt
+at-most-requires-2 : tie.Need-at-most-requires-2
+at-most-requires-2 c κs = tt
 
-lent-requires-3 : tie.Need-lent-requires-3
-lent-requires-3 c κs = tt
+at-most-requires-3 : tie.Need-at-most-requires-3
+at-most-requires-3 c κs = tt
 
-lent-requires-4 : tie.Need-lent-requires-4
-lent-requires-4 c κs = tt
+at-most-requires-4 : tie.Need-at-most-requires-4
+at-most-requires-4 c κs = tt
 
 slice-relend-prefix-replay-call : tie.Need-slice-relend-prefix-replay-call
 slice-relend-prefix-replay-call c = omega arith
@@ -61,7 +61,7 @@ mul-rooms-are : tie.Need-mul-rooms-are
 mul-rooms-are c =
     omega (
       arith,
-      c .before .before .before .before .before .before .before .before .before .before .before .before .before .before .before .before .lent .ensures,
+      c .before .before .before .before .before .before .before .before .before .before .before .before .before .before .before .before .at-most .ensures,
       c .before .before .before .before .before .before .before .before .before .before .before .before .before .before .before .before .before .before .before .before .before .before .before .before .before .before .before .before .before .good .1 .1 .1 .1 .1 .1 .0,
     )
 
@@ -78,7 +78,7 @@ mul-rooms-are-2 : tie.Need-mul-rooms-are-2
 mul-rooms-are-2 c =
     omega (
       arith,
-      c .before .before .before .before .before .before .before .before .before .before .before .before .before .before .before .before .before .lent2 .ensures,
+      c .before .before .before .before .before .before .before .before .before .before .before .before .before .before .before .before .before .at-most2 .ensures,
       c .before .before .before .before .before .before .before .before .before .before .before .before .before .before .before .before .before .before .before .before .before .before .before .before .before .before .before .before .before .before .before .good .1 .1 .1 .1 .1 .1 .1 .0,
     )
 
@@ -95,7 +95,7 @@ mul-rooms-are-3 : tie.Need-mul-rooms-are-3
 mul-rooms-are-3 c =
     omega (
       arith,
-      c .before .before .before .before .before .before .before .before .before .before .before .before .before .before .before .before .before .before .lent3 .ensures,
+      c .before .before .before .before .before .before .before .before .before .before .before .before .before .before .before .before .before .before .at-most3 .ensures,
       c .before .before .before .before .before .before .before .before .before .before .before .before .before .before .before .before .before .before .before .before .before .before .before .before .before .before .before .before .before .before .before .before .before .good .1 .1 .1 .1 .1 .1 .1 .1 .0,
     )
 
@@ -143,10 +143,10 @@ replay-sizes-spec =
     number-at-requires-2
     number-at-requires-3
     number-at-requires-4
-    lent-requires
-    lent-requires-2
-    lent-requires-3
-    lent-requires-4
+    at-most-requires
+    at-most-requires-2
+    at-most-requires-3
+    at-most-requires-4
     slice-relend-prefix-replay-call
     slice-aggregate-replay-call
     slice-relend-prefix-replay-call-2

@@ -1,11 +1,10 @@
--- `show::read_lines` meets its contract: that of `records::read`. The borrow checker's part, below in `Proof/`, comes from a twin (tools/twin.py).
-mod Lts
-mod Tie
+-- `show::read_lines` meets its contract: that of `records::read`. The borrow checker's part comes from a twin (`Twin`).
 use mathlib.Core.Path.{sym}
 use borrow.Author.Needs.{needs}
 use lib.Seq.{length-take-le}
+use Rattle.show.proofs.read_lines.Code.{routine}
 use Rattle.show.proofs.read_lines.Statement.{statement}
-use Rattle.show.proofs.read_lines.Proof.Tie as tie
+use Rattle.show.proofs.Twin.read_lines.Tie as tie
 
 array-share-prefix-lines : tie.Need-array-share-prefix-lines
 array-share-prefix-lines c = search needs
@@ -32,6 +31,7 @@ returns : tie.Need-returns
 returns c = search needs
 
 pub read-lines-spec : {M : Type 1} → statement M
+unfolding routine
 read-lines-spec =
     tie.close
     (tie.spec

@@ -2,11 +2,12 @@
 use Prim.Native.Nat.{_-_, _*_, _≤_}
 use borrow.Author.Needs.{needs}
 use lib.ListN.{length}
+use Rattle.reading.specs.Events.{event-numbers}
 use Rattle.show.proofs.write_events.Statement.{statement}
 use Rattle.show.proofs.write_events.Tie as tie
 
 abbrev Inv-loop : tie.InvT-loop
-Inv-loop events count n i₀ i = (i ≤ n) × (n * 7 ≤ length events)
+Inv-loop events count n i₀ i = (i ≤ n) × (n * event-numbers ≤ length events)
 
 abbrev μ-loop : tie.MeasureT-loop
 μ-loop events count n i₀ i = n - i

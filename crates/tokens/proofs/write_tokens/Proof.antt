@@ -4,10 +4,13 @@ use Rattle.tokens.proofs.write_tokens.Statement.{statement}
 use Rattle.tokens.proofs.write_tokens.Tie as tie
 
 abbrev Inv-loop : tie.InvT-loop
-Inv-loop line c₀ left₀ c left = Unit {0}
+Inv-loop line flags c₀ left₀ c left = Unit {0}
 
 abbrev μ-loop : tie.MeasureT-loop
-μ-loop line c₀ left₀ c left = left
+μ-loop line flags c₀ left₀ c left = left
+
+classes-requires : tie.Need-classes-requires Inv-loop μ-loop
+classes-requires c κs = search needs
 
 new-requires : tie.Need-new-requires Inv-loop μ-loop
 new-requires c κs = search needs
@@ -48,6 +51,7 @@ write-tokens-spec =
     (tie.spec
     Inv-loop
     μ-loop
+    classes-requires
     new-requires
     loop-holds
     next-token-requires

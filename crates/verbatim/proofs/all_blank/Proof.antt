@@ -9,10 +9,10 @@ use Rattle.verbatim.proofs.all_blank.Statement.{statement}
 use Rattle.verbatim.proofs.all_blank.Tie as tie
 
 abbrev Inv-loop : tie.InvT-loop
-Inv-loop s i₀ i = Blank s i
+Inv-loop s flags i₀ i = Blank s i
 
 abbrev μ-loop : tie.MeasureT-loop
-μ-loop s i₀ i = length s - i
+μ-loop s flags i₀ i = length s - i
 
 loop-holds : tie.Need-loop-holds Inv-loop μ-loop
 loop-holds c =

@@ -17,8 +17,8 @@ returns c o =
     let put = c .before .before .put in
     blank-seen (args .line .now) (args .m) (args .h) (args .w) (args .p) (args .queue .now) o (if1 .taken) (put .result) (put .last .1 .1 .1 .1 .1 .0) (put .ensures o)
 
-peek-requires : tie.Need-peek-requires
-peek-requires c κs = search needs
+peek-token-requires : tie.Need-peek-token-requires
+peek-token-requires c κs = search needs
 
 moved-requires : tie.Need-moved-requires
 moved-requires c κs = search needs
@@ -30,7 +30,7 @@ returns-2 : tie.Need-returns-2
 returns-2 c o =
     let args = c .before .before .before .before .before .before .before .args in
     let if1 = c .before .before .before .before .if1 in
-    let peek = c .before .before .before .peek in
+    let peek = c .before .before .before .peek-token in
     let another-run = c .before .another-run in
     let moved = c .before .before .moved in
     let if2 = c .if2 in
@@ -41,8 +41,8 @@ put-requires-2 c κs =
     let pre = c .before .before .before .before .before .before .before .before .pre in
     let args = c .before .before .before .before .before .before .before .before .args in
     let moved = c .before .before .before .moved in
-    let peek = c .before .before .before .before .peek in
-    (pre .0, room-moved (args .p) (moved .result) (peek .result .cursor) (moved .ensures) (args .queue .now) (pre .1))
+    let peek = c .before .before .before .before .peek-token in
+    (pre .0, room-moved (args .p) (moved .result) (peek .result .cursor) (moved .ensures) (args .queue .now) (pre .1 .0))
 
 same-length-2 : tie.Need-same-length-2
 same-length-2 c = search needs
@@ -51,7 +51,7 @@ returns-3 : tie.Need-returns-3
 returns-3 c o =
     let args = c .before .before .before .before .before .before .before .before .before .before .before .args in
     let if1 = c .before .before .before .before .before .before .before .before .if1 in
-    let peek = c .before .before .before .before .before .before .before .peek in
+    let peek = c .before .before .before .before .before .before .before .peek-token in
     let another-run = c .before .before .before .before .before .another-run in
     let moved = c .before .before .before .before .before .before .moved in
     let if2 = c .before .before .before .before .if2 in
@@ -65,7 +65,7 @@ blank-content-spec =
     put-requires
     same-length
     returns
-    peek-requires
+    peek-token-requires
     moved-requires
     another-run-requires
     returns-2

@@ -1,7 +1,6 @@
 -- `verbatim::closes_raw` meets its contract, by the laws of `Closing`.
 use native.Mathlib.Omega.{arith}
 use borrow.Author.Needs.{needs}
-use Rattle.rooms.specs.Records.{homeAs}
 use Rattle.verbatim.proofs.Closing.{opened-raw, raw-change}
 use Rattle.verbatim.proofs.closes_raw.Statement.{statement}
 use Rattle.verbatim.proofs.closes_raw.Tie as tie
@@ -40,7 +39,7 @@ exits-requires c κs =
     let in-text = c .before .before .before .before .before .before .before .in-text in
     let set-kind = c .before .before .before .before .before .before .set-kind in
     let kept = c .before .before .before .kept in
-    (opened-raw (args .w) (args .p) (args .queue .now) (pre .1 .1 .0) (homeAs (in-text .result)) (set-kind .last .0) (set-kind .ensures), (kept .ensures .1 (pre .1 .1 .0 .high), omega (arith, pre .1 .1 .1, (set-kind .kept .0))))
+    (opened-raw (args .w) (args .p) (args .queue .now) (pre .1 .1 .0) (in-text .result) (set-kind .last .0) (set-kind .ensures), (kept .ensures .1 (pre .1 .1 .0 .high), omega (arith, pre .1 .1 .1, (set-kind .kept .0))))
 
 add-new : tie.Need-add-new
 add-new c =
@@ -77,7 +76,7 @@ returns c o line b =
     let new = c .before .new in
     let moved = c .moved in
     raw-change (args .m) (args .h) (args .w) (args .p) (args .queue .now) o (place-at .result) (place-at .ensures) (args .n) (place-at2 .result) (place-at2 .ensures)
-    (homeAs (in-text .result)) (in-text .ensures) (set-kind .last .0) (set-kind .ensures)
+    (in-text .result) (in-text .ensures) (set-kind .last .0) (set-kind .ensures)
     (kept .result) (kept .ensures .0 (set-kind .last .0) (pre .1 .1 .0 .high)) (exits .result) (exits .last .0) (exits .ensures o) (new .result) (new .ensures) (moved .result) (moved .ensures) line b
 
 pub closes-raw-spec : {M : Type 1} → statement M

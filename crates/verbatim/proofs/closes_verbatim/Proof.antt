@@ -11,8 +11,8 @@ after-requires c κs = search needs
 flagged-requires : tie.Need-flagged-requires
 flagged-requires c κs = search needs
 
-peek-requires : tie.Need-peek-requires
-peek-requires c κs = search needs
+peek-token-requires : tie.Need-peek-token-requires
+peek-token-requires c κs = search needs
 
 format-ahead-requires : tie.Need-format-ahead-requires
 format-ahead-requires c κs = search needs
@@ -24,10 +24,10 @@ closes-raw-requires : tie.Need-closes-raw-requires
 closes-raw-requires c κs =
     let pre = c .before .before .before .before .before .before .before .before .before .before .before .pre in
     let args = c .before .before .before .before .before .before .before .before .before .before .before .args in
-    let peek = c .before .before .before .before .before .before .peek in
+    let peek = c .before .before .before .before .before .before .peek-token in
     let format-ahead = c .before .before .before .before .format-ahead in
     let n = c .before .before .n in
-    (pre .0 .ordered, (closes-small (args .line .now) (args .m) (args .h) (peek .result) (format-ahead .result) (format-ahead .ensures (args .m)) (n .given .0 .0) (n .given .1) (pre .0), (pre .1 .0, pre .1 .1)))
+    (pre .0 .ordered, (closes-small (args .line .now) (args .m) (args .h) (peek .result) (format-ahead .result) (format-ahead .ensures (args .m)) (n .given .0 .0) (n .given .1) (pre .0), (pre .1 .0, pre .1 .1 .0)))
 
 enum-told : tie.Need-enum-told
 enum-told c = search needs
@@ -43,7 +43,7 @@ returns c o =
     let args = c .before .before .before .before .before .before .before .before .before .before .before .before .before .before .args in
     let after = c .before .before .before .before .before .before .before .before .before .before .before .after in
     let flagged = c .before .before .before .before .before .before .before .before .before .before .flagged in
-    let peek = c .before .before .before .before .before .before .before .before .before .peek in
+    let peek = c .before .before .before .before .before .before .before .before .before .peek-token in
     let format-ahead = c .before .before .before .before .before .before .before .format-ahead in
     let n = c .before .before .before .before .before .n in
     let closes-raw = c .before .before .closes-raw in
@@ -58,7 +58,7 @@ returns-2 c o =
     let args = c .before .before .before .before .before .before .before .before .before .before .before .before .before .args in
     let after = c .before .before .before .before .before .before .before .before .before .before .after in
     let flagged = c .before .before .before .before .before .before .before .before .before .flagged in
-    let peek = c .before .before .before .before .before .before .before .before .peek in
+    let peek = c .before .before .before .before .before .before .before .before .peek-token in
     let format-ahead = c .before .before .before .before .before .before .format-ahead in
     let enum-told = c .before .before .before .before .enum-told in
     let closes-plain = c .before .before .closes-plain in
@@ -71,7 +71,7 @@ closes-verbatim-spec =
     (tie.spec
     after-requires
     flagged-requires
-    peek-requires
+    peek-token-requires
     format-ahead-requires
     enum-known-n
     closes-raw-requires

@@ -2,7 +2,6 @@
 use Prim.Native.Nat.{_+_}
 use native.Mathlib.Omega.{arith}
 use borrow.Author.Needs.{needs}
-use Rattle.rooms.specs.Records.{homeAs}
 use Rattle.verbatim.proofs.Opening.{takes-from, takes-within, opened-small, opens-change}
 use Rattle.verbatim.proofs.opens_verbatim.Statement.{statement}
 use Rattle.verbatim.proofs.opens_verbatim.Tie as tie
@@ -93,7 +92,7 @@ returns c o line =
     let moved = c .before .moved in
     let inside = c .inside in
     opens-change (args .m) (args .h) (args .p) (args .queue .now) o line (place-at .result) (place-at2 .result) (place-at .ensures) (place-at2 .ensures) (taken .result) (taken .ensures)
-    (leave .last .0) (leave .ensures) (opened-as .result) (opened-as .ensures) (homeAs (nowhere .result)) (nowhere .ensures) (event-of .result) (event-of .ensures) (no-str .result) (no-str .ensures)
+    (leave .last .0) (leave .ensures) (opened-as .result) (opened-as .ensures) (nowhere .result) (nowhere .ensures) (event-of .result) (event-of .ensures) (no-str .result) (no-str .ensures)
     (push .result) (push .last .0) (push .ensures o) (flagged .result) (flagged .ensures) (moved .result) (moved .ensures) (inside .result) (inside .ensures)
 
 pub opens-verbatim-spec : {M : Type 1} → statement M

@@ -20,8 +20,8 @@ eat-while-requires c κs = search needs
 peek-byte-n-requires : tie.Need-peek-byte-n-requires
 peek-byte-n-requires c κs = search needs
 
-add-t12 : tie.Need-add-t12
-add-t12 c =
+add-t13 : tie.Need-add-t13
+add-t13 c =
     omega
     (arith, c .before .before .eat-while .ensures, run-within (inSet SpaceTab) (c .before .before .before .before .before .before .args .s .now))
 
@@ -48,7 +48,7 @@ escaped-spec =
     returns
     eat-while-requires
     peek-byte-n-requires
-    add-t12
+    add-t13
     returns-2
     returns-3
     returns-4)

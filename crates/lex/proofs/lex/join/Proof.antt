@@ -12,10 +12,10 @@ use Rattle.lex.proofs.lex.join.Statement.{statement}
 use Rattle.lex.proofs.lex.join.Tie as tie
 
 abbrev Inv-loop : tie.InvT-loop
-Inv-loop src from end₀ end = Joining src from end
+Inv-loop src from flags end₀ end = Joining src from end
 
 abbrev μ-loop : tie.MeasureT-loop
-μ-loop src from end₀ end = length src - end
+μ-loop src from flags end₀ end = length src - end
 
 loop-holds : tie.Need-loop-holds Inv-loop μ-loop
 loop-holds c = refl

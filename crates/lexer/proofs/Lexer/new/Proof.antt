@@ -84,8 +84,8 @@ module _ {M : Type 1} (𝓤 : URA M) (H : Heap 𝓤) (A : Atoms 𝓤) (W : Given
       qed W [] ∵ nothing ! $ nothing ! $ owned ! bool (Is bool) (bool-makes 𝓤 H A W) false _ refl $ fjoin ! $ owned ! usize (Is usize) (uint-makes 𝓤 H A W w64) 0 _ (refl, lit< tt) $ fjoin ! $
       move ! (1 ∷ 0 ∷ []) $ join ! $ frame ! $ done !
 
-  fresh-said : (c : Cursor) → ent 𝓤 (ensured 𝓤 H A fresh.ended (fresh.clauses 𝓤 H A mem run) tt (0, (false, tt)) tt c) (fact 𝓤 (c ≡ freshOf 0 false))
-  fresh-said c = exE 𝓤 _ (λ ws. snd∗ 𝓤 (sem 𝓤 H A (lasts fresh.ended tt (0, (false, tt)) ws)) (fact 𝓤 (c ≡ freshOf 0 false)))
+  fresh-ensured : (c : Cursor) → ent 𝓤 (ensured 𝓤 H A fresh.ended (fresh.clauses 𝓤 H A mem run) tt (0, (false, tt)) tt c) (fact 𝓤 (c ≡ freshOf 0 false))
+  fresh-ensured c = exE 𝓤 _ (λ ws. snd∗ 𝓤 (sem 𝓤 H A (lasts fresh.ended tt (0, (false, tt)) ws)) (fact 𝓤 (c ≡ freshOf 0 false)))
 
   -- what is had at the end: what the cursor c owns, and what the function was passed
   abbrev Ends : Cursor → List Val → SProp 𝓤
@@ -120,7 +120,7 @@ module _ {M : Type 1} (𝓤 : URA M) (H : Heap 𝓤) (A : Atoms 𝓤) (W : Given
         use0 W (raw (Fresh 𝓤 H A mem run .pre (to 𝓤 H A mem run))) asked $
         calls-at ! fm (Fresh 𝓤 H A mem run) known (to 𝓤 H A mem run) (and-then ! (lit ! tt) (and-then ! (false-lit !) (no-more !))) (λ u.
         use1 W (later (some (λ (c : Cursor). (‵ ftrue ⊛ ‵ (K.the-row .own c (u ∷ []))) ⊛ raw (ensured 𝓤 H A fresh.ended (fresh.clauses 𝓤 H A mem run) tt (0, (false, tt)) tt c)))) (id⊢ 𝓤 _) $ await ! tt $ pick ! (λ c.
-        split ! $ move ! (1 ∷ []) $ use1 W (raw (fact 𝓤 (c ≡ freshOf 0 false))) (fresh-said c) $ heard ! (c ≡ freshOf 0 false) (λ e. split ! $ drop ! $
+        split ! $ move ! (1 ∷ []) $ use1 W (raw (fact 𝓤 (c ≡ freshOf 0 false))) (fresh-ensured c) $ heard ! (c ≡ freshOf 0 false) (λ e. split ! $ drop ! $
         -- [what the cursor owns; room for _2; …; _1; …; room for _0; …; what was passed]
         peeks ! K.the-row (Is K.the-row) (shows 𝓤 H A K.the-row) c (u ∷ []) (λ is.
         land ! (from ! (stop !)) (init ! 1 refl (typedC κ 𝓤 H A W c u is)) $

@@ -18,5 +18,5 @@ unfolding code.routine tablesOf
 next-spec 𝓤 H 𝓜 𝓖 𝓡 =
     entered 𝓤 H (tripleOf 𝓤 H (𝓖 .A) next.signature (next.spec 𝓤 H (𝓖 .A) (𝓜 .mem) (𝓡 .run)))
     (tables 𝓤 H 𝓜 𝓡 code.env .C) (tables 𝓤 H 𝓜 𝓡 code.env .Λ) #lexer·next code.function (code.unfolded 𝓤 H 𝓜 𝓡)
-    (meets 𝓤 H (𝓖 .A) nextOf (givenOf 𝓤 H 𝓜 𝓖) #lex·next (λ κs d r. next.clauses 𝓤 H (𝓖 .A) (𝓜 .mem) (𝓡 .run) κs (d, tt) .ensures tt r (d, tt)) (λ κs d r. refl) (tablesOf 𝓤 H 𝓜 (tables 𝓤 H 𝓜 𝓡 code.env))
+    (meets 𝓤 H (𝓖 .A) nextOf (givenOf 𝓤 H 𝓜 𝓖) #lex·next (λ κs a r. next.clauses 𝓤 H (𝓖 .A) (𝓜 .mem) (𝓡 .run) κs a .ensures tt r a) (λ κs a r. refl) (tablesOf 𝓤 H 𝓜 (tables 𝓤 H 𝓜 𝓡 code.env))
     (cited 𝓤 H (Ask 𝓤 H (𝓖 .A) nextOf) 𝓜 𝓡 code.env #lex·next asked-def.routine code.calls-lex·lex·Cursor·next (asked-thm.met 𝓤 H 𝓜 𝓖 𝓡)))

@@ -18,5 +18,5 @@ unfolding code.routine tablesOf
 peek-spec 𝓤 H 𝓜 𝓖 𝓡 =
     entered 𝓤 H (tripleOf 𝓤 H (𝓖 .A) peek.signature (peek.spec 𝓤 H (𝓖 .A) (𝓜 .mem) (𝓡 .run)))
     (tables 𝓤 H 𝓜 𝓡 code.env .C) (tables 𝓤 H 𝓜 𝓡 code.env .Λ) #lexer·peek code.function (code.unfolded 𝓤 H 𝓜 𝓡)
-    (meets 𝓤 H (𝓖 .A) peekOf (givenOf 𝓤 H 𝓜 𝓖) #lex·peek (λ κs d r. peek.clauses 𝓤 H (𝓖 .A) (𝓜 .mem) (𝓡 .run) κs (d, tt) .ensures tt r (d, tt)) (λ κs d r. refl) (tablesOf 𝓤 H 𝓜 (tables 𝓤 H 𝓜 𝓡 code.env))
+    (meets 𝓤 H (𝓖 .A) peekOf (givenOf 𝓤 H 𝓜 𝓖) #lex·peek (λ κs a r. peek.clauses 𝓤 H (𝓖 .A) (𝓜 .mem) (𝓡 .run) κs a .ensures tt r a) (λ κs a r. refl) (tablesOf 𝓤 H 𝓜 (tables 𝓤 H 𝓜 𝓡 code.env))
     (cited 𝓤 H (Ask 𝓤 H (𝓖 .A) peekOf) 𝓜 𝓡 code.env #lex·peek asked-def.routine code.calls-lex·lex·Cursor·peek (asked-thm.met 𝓤 H 𝓜 𝓖 𝓡)))

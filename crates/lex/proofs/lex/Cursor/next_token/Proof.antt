@@ -49,9 +49,9 @@ returns-2 c =
 join-requires : tie.Need-join-requires
 join-requires c κs = search needs
 
-sub-t18 : tie.Need-sub-t18
+sub-t19 : tie.Need-sub-t19
 unfolding joinedOf
-sub-t18 c = omega (arith, ap (λ (j : Joined). j .end) (c .join .ensures))
+sub-t19 c = omega (arith, ap (λ (j : Joined). j .end) (c .join .ensures))
 
 holding-requires-2 : tie.Need-holding-requires-2
 holding-requires-2 c κs = search needs
@@ -77,6 +77,6 @@ next-token-spec =
     pending-requires
     returns-2
     join-requires
-    sub-t18
+    sub-t19
     holding-requires-2
     returns-3)

@@ -1,0 +1,2 @@
+-- The laws of the lookup.
+pub mod Looking
