@@ -1,2 +1,1 @@
-pub mod Splitting
 pub mod Twin

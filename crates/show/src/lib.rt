@@ -5,16 +5,14 @@ ghost use lib.ListN.{length, take};
 ghost use Rattle.reading.specs.Events.{event-numbers};
 ghost use Rattle.reading.specs.Questions.{outcome};
 ghost use Rattle.outcome.specs.Outcomes.{rooms-of, outcome-of};
-ghost use Rattle.show.specs.Lines.{text-lines};
+use input::BYTES;
 use reading::Answer;
 use reading::EVENT_NUMBERS;
 use reading::Line;
 use reading::OPENER_NUMBERS;
 use reading::QUEUE_NUMBERS;
 
-// The program's input in bytes, and its rooms.
-const BYTES: usize = 1000;
-
+// The program's rooms.
 const EVENT_ROOM: usize = (BYTES + 1) * EVENT_NUMBERS;
 
 const QUEUE_ROOM: usize = (2 * BYTES + 1) * QUEUE_NUMBERS;
@@ -22,44 +20,6 @@ const QUEUE_ROOM: usize = (2 * BYTES + 1) * QUEUE_NUMBERS;
 const OPENER_ROOM: usize = BYTES * OPENER_NUMBERS;
 
 const LABEL_ROOM: usize = 65536;
-
-// Lines from the front of a room, and how many there are.
-struct Split {
-    lines: [Line; BYTES],
-    count: usize,
-}
-
-// The lines of a text, each with its newline.
-fn split_lines(text: &[u8]) -> Split
-    requires { ⌜ length (now text) ≤ 1000 ⌝ }
-    ensures { λ r. ⌜ r .count ≡ length (text-lines (now (text .entry))) ⌝ }
-    ensures { λ r. ⌜ take (r .count) (r .lines) ≡ text-lines (now (text .entry)) ⌝ }
-{
-    let mut lines = [Line { start: 0, end: 0 }; BYTES];
-    let mut n = 0;
-    let mut from = 0;
-    let mut i = 0;
-    while i < text.len() {
-        let b = text[i];
-        i += 1;
-        if b == b'\n' {
-            lines[n] = Line {
-                start: from,
-                end: i,
-            };
-            n += 1;
-            from = i;
-        }
-    }
-    if from < i {
-        lines[n] = Line {
-            start: from,
-            end: i,
-        };
-        n += 1;
-    }
-    Split { lines, count: n }
-}
 
 // Numbers on one line.
 fn write_line(numbers: &[u32]) {
@@ -143,7 +103,7 @@ fn show_lines(text: &[u8], lines: [Line; BYTES], n: usize)
 fn show(text: &[u8])
     requires { ⌜ length (now text) ≤ 1000 ⌝ }
 {
-    let split = split_lines(text);
+    let split = input::split_lines(text);
     let lines = split.lines;
     let n = split.count;
     show_lines(text, lines, n);

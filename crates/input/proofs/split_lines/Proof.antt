@@ -2,9 +2,9 @@
 use Prim.Native.Nat.{_-_}
 use borrow.Author.Needs.{needs}
 use lib.ListN.{length}
-use Rattle.show.proofs.Splitting.{Splitting, none, goes-on, ends-line, last-line, no-line}
-use Rattle.show.proofs.split_lines.Statement.{statement}
-use Rattle.show.proofs.split_lines.Tie as tie
+use Rattle.input.proofs.Splitting.{Splitting, none, goes-on, ends-line, last-line, no-line}
+use Rattle.input.proofs.split_lines.Statement.{statement}
+use Rattle.input.proofs.split_lines.Tie as tie
 
 abbrev Inv-loop : tie.InvT-loop
 Inv-loop text lines₀ n₀ from₀ i₀ lines n from i = Splitting text lines n from i

@@ -8,7 +8,7 @@ use borrow.Author.Tests.{eq-eqb, ne-eqb, lt-ltb, le-ltb}
 use lib.ListN.{length, getD, take, drop, set, length-set, drop-of-length-le}
 use lib.Seq.{drop-cons, take-suc-set, length-take-le}
 use Rattle.reading.specs.declared.Line.{Line}
-use Rattle.show.specs.Lines.{lines-from, text-lines}
+use Rattle.input.specs.Lines.{lines-from, text-lines}
 
 -- the lines from a byte on: at a newline, and at another; and from the end on
 at-newline : (from at b : ℕ) (bs : List ℕ) → b ≡ 10
