@@ -9,11 +9,15 @@ pub struct Case {
     pub sheets: Vec<Sheet>,
 }
 
-/// With the sum of the line lengths, and the label bytes that are built.
+/// With the sum of the line lengths, and the label bytes that are built; and, of a fragment, its length and the output room that is lent.
 pub struct Sheet {
     pub lines: Vec<Line>,
     pub bytes: usize,
     pub labels: usize,
+    #[cfg(fragments)]
+    pub length: usize,
+    #[cfg(fragments)]
+    pub out: usize,
 }
 
 const KIB: usize = 1024;
@@ -70,6 +74,23 @@ const MARKED: &[&str] = &[
     "plain words of a cell without any markup in them, ## of ##\n",
 ];
 
+/// As above, for a fragment: without links, images, autolinks and footnote references, which are refused, and with characters that are escaped.
+#[cfg(fragments)]
+const SHOWN: &[&str] = &[
+    "Door *##* is wired to `R-##` and `R-##` on the _left_ rail, see (sheet #) & (##.dj).\n",
+    "The {+new+} relay {-K##-} {=K##=} takes 24 V; its coil is \"K##\", not 'K##'.\n",
+    "H~2~O sensors (m^2^ of {~floor~}) are on `X#:##`, `X#:##` and ``a `b` c``.\n",
+    "Photo of cabinet ## {=img/##.png=} and *the plan* ##, {^footnote^} `U < ## V && I > # A`\n",
+    "Ask {_fitter ##_} or see {*lockers*} ##; -20 < ## > 4 :warning: :lock: $$`x_# < ##`\n",
+    "0.75 -- 1.5 mm, 10--12 Nm --- never more... \\*not strong\\*\\ here, $`U = R I`.\n",
+    "*Strong with _emphasis_ and `verbatim`* then {*braced {_twice_} over*} end.\n",
+    "A mark whose {=text runs\n",
+    "on to another line ##=} and `a verbatim\n",
+    "that does` as well; {-a deletion of two\n",
+    "lines ##-}, raw `<b>`{=html} and a hard break\\\n",
+    "plain words of a cell without any markup in them, ## of ##\n",
+];
+
 /// Words of prose.
 const WORDS: &[&str] = &[
     "the", "of", "and", "a", "to", "in", "is", "was", "locker", "parcel", "cabinet", "door", "wire", "that", "it", "for", "on", "are", "with",
@@ -80,7 +101,15 @@ const WORDS: &[&str] = &[
 fn sheet(ranges: impl Iterator<Item = (usize, usize)>) -> Sheet {
     let lines: Vec<Line> = ranges.map(|(start, end)| Line { start, end }).collect();
     let bytes = lines.iter().map(|l| l.end - l.start).sum();
-    Sheet { lines, bytes, labels: 0 }
+    Sheet {
+        lines,
+        bytes,
+        labels: 0,
+        #[cfg(fragments)]
+        length: 0,
+        #[cfg(fragments)]
+        out: 0,
+    }
 }
 
 /// One sheet: each line with its newline.
@@ -111,25 +140,46 @@ fn filled(size: usize, mut more: impl FnMut(&mut String)) -> String {
     }
 }
 
-/// 2,000 cells, each a sheet of one line.
-pub fn cells() -> Case {
+/// 2,000 of these cells, each a sheet of one line.
+fn table(name: &'static str, cells: &[&str]) -> Case {
     let mut dice = Dice(1);
     let mut text = String::new();
     let mut sheets = Vec::new();
     for _ in 0..2000 {
         let start = text.len();
-        let cell = dice.one_of(CELLS);
+        let cell = dice.one_of(cells);
         digits(&mut dice, cell, &mut text);
         sheets.push(sheet(std::iter::once((start, text.len()))));
         text.push_str(" | ");
     }
-    Case { name: "a  cells, 2,000", text, sheets }
+    Case { name, text, sheets }
+}
+
+pub fn cells() -> Case {
+    table("a  cells, 2,000", CELLS)
+}
+
+/// For fragments: without the two cells that have a link or a footnote reference, which are refused.
+#[cfg(fragments)]
+pub fn shown_cells(name: &'static str) -> Case {
+    let shown: Vec<&str> = CELLS.iter().copied().filter(|cell| !cell.contains('[')).collect();
+    table(name, &shown)
+}
+
+/// 64 KiB of these lines.
+fn sheet_of(name: &'static str, pattern: &[&str]) -> Case {
+    let mut dice = Dice(2);
+    lines(name, filled(64 * KIB, |text| pattern.iter().for_each(|line| digits(&mut dice, line, text))))
 }
 
 pub fn marked_up() -> Case {
-    let mut dice = Dice(2);
-    let text = filled(64 * KIB, |text| MARKED.iter().for_each(|line| digits(&mut dice, line, text)));
-    lines("b  marked up, 64 KiB", text)
+    sheet_of("b  marked up, 64 KiB", MARKED)
+}
+
+/// The like, for a fragment.
+#[cfg(fragments)]
+pub fn shown(name: &'static str) -> Case {
+    sheet_of(name, SHOWN)
 }
 
 /// Lines of about 80 bytes; sentences of about twelve words, with a comma, a full stop, now and then an apostrophe or a quotation.

@@ -1,5 +1,6 @@
 //! Measures the reader beside the Rust (`inline.rs`, `lex.rs` and `attr.rs` of the documents, as they stand) and beside a plain clear of the
 //! same rooms: medians of interleaved rounds, in nanoseconds for a byte and as ratios to the Rust. Status 1 if a bar is missed.
+//! With `--cfg fragments` it is another program, which measures fragments: in one program each would be measured with the other's code beside it.
 
 #[allow(dead_code, unused_imports)]
 mod attr {
@@ -15,14 +16,25 @@ mod lex {
 }
 type CowStr<'s> = std::borrow::Cow<'s, str>;
 
+#[cfg_attr(fragments, allow(dead_code))]
 mod cases;
+#[cfg(fragments)]
+mod fragments;
+#[cfg(fragments)]
+mod html;
 #[allow(dead_code)]
 #[path = "../interface/mivurakol.rs"]
 mod mivurakol;
 
 use cases::{Case, Sheet};
+#[cfg(fragments)]
+use fragments::{clear, ours, prepare, theirs, AMPLE_CELLS, AMPLE_SHEET};
+#[cfg(not(fragments))]
 use mivurakol::field::{END, START};
-use mivurakol::{code, Event, EVENT_NUMBERS, OPENER_NUMBERS, QUEUE_NUMBERS};
+#[cfg(not(fragments))]
+use mivurakol::{code, Event};
+use mivurakol::{EVENT_NUMBERS, OPENER_NUMBERS, QUEUE_NUMBERS};
+#[cfg(not(fragments))]
 use std::hint::black_box;
 
 /// Rounds, each of which measures all three; and the nanoseconds that one measurement takes at least.
@@ -35,6 +47,8 @@ struct Rooms {
     queue: Vec<u32>,
     openers: Vec<u32>,
     labels: Vec<u8>,
+    #[cfg(fragments)]
+    out: Vec<u8>,
 }
 
 impl Rooms {
@@ -44,6 +58,8 @@ impl Rooms {
             queue: vec![0; QUEUE_NUMBERS * (2 * bytes + 1)],
             openers: vec![0; OPENER_NUMBERS * bytes],
             labels: vec![0; 4 * bytes],
+            #[cfg(fragments)]
+            out: Vec::new(),
         }
     }
 
@@ -67,6 +83,7 @@ fn parser<'t>(text: &'t str, sheet: &Sheet) -> inline::Parser<'t> {
     parser
 }
 
+#[cfg(not(fragments))]
 fn theirs(case: &Case) {
     for sheet in &case.sheets {
         for event in parser(&case.text, sheet) {
@@ -75,11 +92,13 @@ fn theirs(case: &Case) {
     }
 }
 
+#[cfg(not(fragments))]
 fn read<'r>(case: &Case, sheet: &Sheet, front: &'r mut mivurakol::Rooms) -> (mivurakol::Answer, &'r [Event]) {
     let answer = mivurakol::read(case.text.as_bytes(), &sheet.lines, 0, front);
     (answer, &front.events.as_chunks().0[..answer.events as usize])
 }
 
+#[cfg(not(fragments))]
 fn ours(case: &Case, rooms: &mut Rooms) {
     for sheet in &case.sheets {
         for event in read(case, sheet, &mut rooms.front(sheet.bytes, sheet.labels)).1 {
@@ -88,6 +107,7 @@ fn ours(case: &Case, rooms: &mut Rooms) {
     }
 }
 
+#[cfg(not(fragments))]
 fn clear(case: &Case, rooms: &mut Rooms) {
     for sheet in &case.sheets {
         let front = rooms.front(sheet.bytes, sheet.labels);
@@ -101,6 +121,7 @@ fn clear(case: &Case, rooms: &mut Rooms) {
 }
 
 /// The label bytes that each sheet needs. Ours and the Rust's events must have the same spans.
+#[cfg(not(fragments))]
 fn label_bytes(case: &Case, rooms: &mut Rooms) -> Vec<usize> {
     let of = |sheet: &Sheet| {
         let room = rooms.labels.len();
@@ -112,6 +133,12 @@ fn label_bytes(case: &Case, rooms: &mut Rooms) -> Vec<usize> {
         answer.labels as usize
     };
     case.sheets.iter().map(of).collect()
+}
+
+#[cfg(not(fragments))]
+fn prepare(case: &mut Case, rooms: &mut Rooms) {
+    let labels = label_bytes(case, rooms);
+    case.sheets.iter_mut().zip(labels).for_each(|(sheet, bytes)| sheet.labels = bytes);
 }
 
 #[repr(C)]
@@ -164,7 +191,10 @@ type Bar = (&'static str, fn(f64, f64) -> f64);
 
 const HALF: Bar = ("half of the Rust", |rust, _| rust / 2.0);
 const WITH_CLEARING: Bar = ("the Rust and the clearing", |rust, clear| rust + clear);
+#[cfg(not(fragments))]
 const NO_SLOWER: Bar = ("the Rust", |rust, _| rust);
+#[cfg(fragments)]
+const NONE: Bar = ("anything", |_, _| f64::INFINITY);
 
 /// The times of a pass of the Rust, of ours and of the clear, in each round.
 fn times_of(case: &Case, rooms: &mut Rooms) -> [Vec<f64>; 3] {
@@ -186,8 +216,7 @@ fn times_of(case: &Case, rooms: &mut Rooms) -> [Vec<f64>; 3] {
 /// Measures a case and prints its line. Whether it is within its bar.
 fn measure(mut case: Case, bar: Bar) -> bool {
     let mut rooms = Rooms::new(case.sheets.iter().map(|sheet| sheet.bytes).max().unwrap_or(0));
-    let labels = label_bytes(&case, &mut rooms);
-    case.sheets.iter_mut().zip(labels).for_each(|(sheet, bytes)| sheet.labels = bytes);
+    prepare(&mut case, &mut rooms);
     let times = times_of(&case, &mut rooms);
     let ratios: Vec<f64> = times[1].iter().zip(&times[0]).map(|(ours, rust)| ours / rust).collect();
     let [rust, ours, clear] = times.map(|t| quantile(&t, 0.5));
@@ -212,7 +241,8 @@ fn measure(mut case: Case, bar: Bar) -> bool {
     met
 }
 
-fn main() {
+#[cfg(not(fragments))]
+fn all() -> bool {
     println!("Medians of {ROUNDS} rounds: nanoseconds for a byte, and ratios to the Rust.");
     println!("case                  bytes      Rust     ours  clearing  ours/Rust  quartiles  without it  clearing   ours at most");
     let mut met = true;
@@ -225,7 +255,26 @@ fn main() {
     ] {
         met &= measure(case, bar);
     }
-    if !met {
+    met
+}
+
+/// Below the other program's lines. In ample room there is no bar.
+#[cfg(fragments)]
+fn all() -> bool {
+    let mut met = true;
+    for (case, bar) in [
+        (cases::shown_cells("e  cells in HTML"), HALF),
+        (cases::shown_cells(AMPLE_CELLS), NONE),
+        (cases::shown("f  marked up in HTML"), WITH_CLEARING),
+        (cases::shown(AMPLE_SHEET), NONE),
+    ] {
+        met &= measure(case, bar);
+    }
+    met
+}
+
+fn main() {
+    if !all() {
         std::process::exit(1);
     }
 }

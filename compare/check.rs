@@ -1,16 +1,18 @@
-//! One sheet: the reader's answer and all rooms beside what the Rust and the questions of document 01 give, for rooms of many sizes.
+//! One sheet: the reader's answer, its fragment's, and all rooms beside what the Rust and the questions of documents 01 and 02 give, for rooms of
+//! many sizes.
 
 use crate::events::enters;
 use crate::expect::Expect;
 use crate::laws::Laws;
-use crate::lending::{Lending, Sort, SURE};
+use crate::lending::{Lending, Size, Sort, OUTPUTS, SURE};
 use crate::mivurakol::container::{AUTOLINK, DISPLAY_MATH, INLINE_IMAGE, INLINE_MATH, REFERENCE_LINK, SUBSCRIPT};
 use crate::mivurakol::field::{END, KIND, START};
-use crate::mivurakol::{self, code, home, Answer, Event, Line, EXIT};
+use crate::mivurakol::{self, code, home, Answer, Event, FragmentAnswer, Line, EXIT};
 use crate::model::Sizes;
 use crate::ours;
 use crate::rooms::Rooms;
 use crate::sheet::{ascii, Sheet};
+use crate::shown;
 use std::time::{Duration, Instant};
 
 /// How long a smaller sheet is looked for.
@@ -49,7 +51,23 @@ fn math_over(sheet: &Sheet, events: &[Event]) -> bool {
     events.iter().any(|e| enters(INLINE_MATH, DISPLAY_MATH).contains(&e[KIND]) && over(e))
 }
 
-/// Calls the reader, and sees that all is as expected.
+/// Whether an answer is as expected.
+fn same<A: PartialEq + std::fmt::Debug>(expected: &A, answer: &A) -> Result<(), String> {
+    if answer != expected {
+        return Err(format!("{expected:?} is expected, the answer is {answer:?}"));
+    }
+    Ok(())
+}
+
+/// Whether line records are still those of a sheet.
+fn kept(sheet: &Sheet, lines: &[Line]) -> Result<(), String> {
+    if !lines.iter().map(|l| (l.start, l.end)).eq(sheet.lines()) {
+        return Err("the lines are written to".to_string());
+    }
+    Ok(())
+}
+
+/// Calls the reader and the fragment, and sees that all is as expected.
 pub struct Checker {
     rooms: Rooms,
     pub expect: Expect,
@@ -59,9 +77,12 @@ pub struct Checker {
     lines: Vec<Line>,
     /// How many calls there were, on records and on starts and ends.
     pub calls: [u64; 2],
+    /// How many fragments were asked for, by code.
+    pub fragments: [u64; code::OUTPUT_ROOM as usize + 1],
     laws: Laws,
-    /// How many lendings of a sort there were, in each reading.
+    /// How many lendings of a sort there were, in each reading, and how many output rooms.
     turns: [[usize; 4]; 2],
+    outputs: [usize; 2],
     pub sheets: u64,
     pub counts: [Counts; 2],
 }
@@ -74,14 +95,17 @@ impl Checker {
             before: Sheet::default(),
             lines: Vec::new(),
             calls: [0; 2],
+            fragments: [0; code::OUTPUT_ROOM as usize + 1],
             laws: Laws::default(),
             turns: [[0; 4]; 2],
+            outputs: [0; 2],
             sheets: 0,
             counts: Default::default(),
         }
     }
 
-    /// What was asked about, through both entries: on line records, if there are as many ends as starts, and on starts and ends.
+    /// What was asked about, through all entries: the reader and the fragment on line records, if there are as many ends as starts, and the reader
+    /// on starts and ends.
     pub fn call(&mut self, sheet: &Sheet, reading: u32, sizes: &Sizes) -> Result<Answer, String> {
         let expected = self.expect.answer(sheet, reading, sizes);
         self.before.copy(sheet);
@@ -89,32 +113,65 @@ impl Checker {
             let mut lines = std::mem::take(&mut self.lines);
             lines.clear();
             lines.extend(sheet.lines().map(|(start, end)| Line { start, end }));
-            let answer = mivurakol::read(&sheet.text, &lines, reading, &mut self.rooms.lend(sizes));
-            let kept = lines.iter().map(|l| (l.start, l.end)).eq(sheet.lines());
+            let fragment = self.expect.fragment_answer(&expected, sizes.out);
+            let called = self.on_records(sheet, &lines, reading, sizes, &expected);
+            let called = called.and_then(|()| self.fragment(sheet, &lines, reading, sizes, &fragment));
             self.lines = lines;
-            self.calls[0] += 1;
-            self.wrong(sheet, kept, &expected, &answer).map_or(Ok(()), |wrong| Err(format!("on records: {wrong}")))?;
+            called?;
         }
         let answer = ours::read(&sheet.text, &sheet.starts, &sheet.ends, reading, &mut self.rooms.lend(sizes));
         self.calls[1] += 1;
-        self.wrong(sheet, true, &expected, &answer).map_or(Ok(expected), Err)
+        same(&expected, &answer)?;
+        self.rooms_as(sheet, expected.code, expected.labels)?;
+        Ok(expected)
     }
 
-    /// What is not as expected after one call: the sheet, the answer, or a number of a room.
-    fn wrong(&mut self, sheet: &Sheet, kept: bool, expected: &Answer, answer: &Answer) -> Option<String> {
-        if *sheet != self.before || !kept {
-            return Some("the sheet is written to".to_string());
+    /// The reader on line records.
+    fn on_records(&mut self, sheet: &Sheet, lines: &[Line], reading: u32, sizes: &Sizes, expected: &Answer) -> Result<(), String> {
+        let answer = mivurakol::read(&sheet.text, lines, reading, &mut self.rooms.lend(sizes));
+        self.calls[0] += 1;
+        same(expected, &answer)
+            .and_then(|()| kept(sheet, lines))
+            .and_then(|()| self.rooms_as(sheet, expected.code, expected.labels))
+            .map_err(|wrong| format!("on records: {wrong}"))
+    }
+
+    /// The fragment.
+    fn fragment(&mut self, sheet: &Sheet, lines: &[Line], reading: u32, sizes: &Sizes, expected: &FragmentAnswer) -> Result<(), String> {
+        let (mut rooms, out) = self.rooms.lend_output(sizes);
+        let answer = mivurakol::fragment(&sheet.text, lines, reading, &mut rooms, out);
+        self.fragments[expected.code as usize] += 1;
+        same(expected, &answer)
+            .and_then(|()| kept(sheet, lines))
+            .and_then(|()| self.rooms_as(sheet, expected.code, expected.labels))
+            .and_then(|()| self.output_as(sheet, expected))
+            .map_err(|wrong| format!("of the fragment: {wrong}"))
+    }
+
+    /// Whether the sheet and the four rooms are as expected after a call with such an answer.
+    fn rooms_as(&mut self, sheet: &Sheet, code: u32, labels: u32) -> Result<(), String> {
+        if *sheet != self.before {
+            return Err("the sheet is written to".to_string());
         }
-        if answer != expected {
-            return Some(format!("{expected:?} is expected, the answer is {answer:?}"));
-        }
-        if expected.code == code::ACCEPTED && !self.expect.same_text {
-            for b in &mut self.rooms.labels.room_mut()[..expected.labels as usize] {
+        if code == code::ACCEPTED && !self.expect.same_text {
+            for b in &mut self.rooms.labels.room_mut()[..labels as usize] {
                 *b = ascii(*b);
             }
         }
         let rust = &self.expect.rust;
-        self.rooms.wrong(expected.code, &rust.events, &rust.labels).map(|wrong| format!("{wrong} after {}", expected.code))
+        self.rooms.wrong(code, &rust.events, &rust.labels).map_or(Ok(()), |wrong| Err(format!("{wrong} after {code}")))
+    }
+
+    /// Whether the output room is: the fragment, which keeps its laws, and zeros; or zeros alone.
+    fn output_as(&self, sheet: &Sheet, expected: &FragmentAnswer) -> Result<(), String> {
+        let accepted = expected.code == code::ACCEPTED;
+        let fragment = if accepted { &self.expect.fragment[..] } else { b"" };
+        if let Some(wrong) = self.rooms.wrong_output(fragment) {
+            return Err(format!("{wrong} after {}", expected.code));
+        }
+        let written = &self.rooms.out.room()[..expected.length as usize];
+        let broken = accepted.then(|| shown::broken(sheet, &self.expect.rust.events, written)).flatten();
+        broken.map_or(Ok(()), |broken| Err(broken.to_string()))
     }
 
     /// The event room and the label room, as the last call left them.
@@ -164,20 +221,29 @@ impl Checker {
         Ok(())
     }
 
-    /// The next lending of a sort.
+    /// The next lending of a sort, with the next output room.
     fn turn(&mut self, reading: u32, sort: Sort) -> Lending {
         let turn = &mut self.turns[reading as usize][sort as usize];
         *turn += 1;
         let some = sort.lendings();
-        some[*turn % some.len()]
+        let lending = some[*turn % some.len()];
+        Lending { out: self.output(reading), ..lending }
+    }
+
+    /// The next output room.
+    fn output(&mut self, reading: u32) -> Size {
+        let turn = &mut self.outputs[reading as usize];
+        *turn += 1;
+        OUTPUTS[*turn % OUTPUTS.len()]
     }
 
     /// One sheet in one reading, with the lending that is for every sheet and so many others. The lending that shows a difference.
     fn check(&mut self, sheet: &Sheet, reading: u32, turns: usize) -> Result<(), Lending> {
         self.expect.ask(sheet, reading);
-        self.lend(sheet, reading, &SURE).map_err(|_| SURE)?;
+        let sure = Lending { out: self.output(reading), ..SURE };
+        self.lend(sheet, reading, &sure).map_err(|_| sure)?;
         if self.expect.readable() {
-            self.list(sheet, reading).map_err(|_| SURE)?;
+            self.list(sheet, reading).map_err(|_| sure)?;
         }
         for sort in Sort::of(&self.expect) {
             for _ in 0..turns {
@@ -234,5 +300,7 @@ impl Checker {
         let rust = &self.expect.rust;
         println!("the Rust: events {:?}, labels {:?}, brace {:?}", rust.events, rust.labels, rust.brace);
         println!("ours: event room {events:?}, label room {labels:?}");
+        println!("its fragment: {:?}", String::from_utf8_lossy(&self.expect.fragment));
+        println!("ours: output room {:?}", String::from_utf8_lossy(self.rooms.out.room()));
     }
 }

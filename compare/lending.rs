@@ -14,7 +14,7 @@ pub enum Size {
     Less(usize),
     Half,
     Nothing,
-    /// Of the event room: N + 1 records.
+    /// What always suffices: of the event room N + 1 records, of the output room `fragment_room`.
     Bound,
 }
 
@@ -26,10 +26,12 @@ pub struct Lending {
     pub queue: Size,
     pub openers: Size,
     pub labels: Size,
+    /// Of a fragment's output room.
+    pub out: Size,
 }
 
-const EXACT: Lending = Lending { reading: None, events: More(0), queue: More(0), openers: More(0), labels: More(0) };
-const NOTHING: Lending = Lending { reading: None, events: Nothing, queue: Nothing, openers: Nothing, labels: Nothing };
+const EXACT: Lending = Lending { reading: None, events: More(0), queue: More(0), openers: More(0), labels: More(0), out: More(0) };
+const NOTHING: Lending = Lending { reading: None, events: Nothing, queue: Nothing, openers: Nothing, labels: Nothing, out: Nothing };
 
 /// Lent for every sheet: with N + 1 event records it is never refused for event room.
 pub const SURE: Lending = Lending { events: Bound, ..EXACT };
@@ -91,6 +93,9 @@ const BRACED: &[Lending] = &[
 /// For line lists that are none.
 const UNFIT: &[Lending] = &[NOTHING, Lending { labels: More(5), ..SURE }, Lending { reading: Some(3), ..NOTHING }, EXACT];
 
+/// Output rooms, which take turns of their own with all of these. Their number divides none of theirs, so that each lending meets each of them.
+pub const OUTPUTS: &[Size] = &[More(0), Less(1), More(1), Nothing, Bound, Half, More(40)];
+
 /// Sorts of sheets that lendings are for.
 #[derive(Clone, Copy)]
 pub enum Sort {
@@ -128,20 +133,27 @@ impl Sort {
 #[derive(Clone, Copy)]
 pub struct Need {
     pub exact: Sizes,
-    /// N + 1 event records.
-    pub bound: usize,
+    /// N + 1 event records, and the output room that always suffices.
+    pub events: usize,
+    pub out: usize,
 }
 
 impl Need {
     pub fn sizes(&self, lending: &Lending) -> Sizes {
-        let of = |need: usize, size: Size| match size {
+        let of = |need: usize, bound: usize, size: Size| match size {
             More(n) => need + n,
             Less(n) => need.saturating_sub(n),
             Half => need / 2,
             Nothing => 0,
-            Bound => self.bound,
+            Bound => bound,
         };
-        let Sizes { events, queue, openers, labels } = self.exact;
-        Sizes { events: of(events, lending.events), queue: of(queue, lending.queue), openers: of(openers, lending.openers), labels: of(labels, lending.labels) }
+        let Sizes { events, queue, openers, labels, out } = self.exact;
+        Sizes {
+            events: of(events, self.events, lending.events),
+            queue: of(queue, queue, lending.queue),
+            openers: of(openers, openers, lending.openers),
+            labels: of(labels, labels, lending.labels),
+            out: of(out, self.out, lending.out),
+        }
     }
 }

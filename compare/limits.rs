@@ -38,19 +38,21 @@ fn each_size(checker: &mut Checker, sheet: &Sheet, reading: u32, calls: &mut u64
         && all(exact.queue + QUEUE_NUMBERS + 2, &|queue| Sizes { queue, ..exact })
         && all(exact.openers + OPENER_NUMBERS + 2, &|openers| Sizes { openers, ..exact })
         && all(exact.labels + 3, &|labels| Sizes { labels, ..exact })
+        && all(exact.out + 3, &|out| Sizes { out, ..exact })
 }
 
-/// All four rooms at once: nothing, one short, exact, one over.
+/// All rooms at once: nothing, one short, exact, one over.
 fn all_together(checker: &mut Checker, sheet: &Sheet, reading: u32, calls: &mut u64) -> bool {
     checker.expect.ask(sheet, reading);
     let exact = checker.expect.need.exact;
     let of = |need: usize, n: usize| [0, need.saturating_sub(1), need, need + 1][n % 4];
-    (0..256).all(|n| {
+    (0..1024).all(|n| {
         let sizes = Sizes {
             events: of(exact.events, n),
             queue: of(exact.queue, n / 4),
             openers: of(exact.openers, n / 16),
             labels: of(exact.labels, n / 64),
+            out: of(exact.out, n / 256),
         };
         *calls += 1;
         right(checker, sheet, reading, &sizes)
@@ -60,7 +62,7 @@ fn all_together(checker: &mut Checker, sheet: &Sheet, reading: u32, calls: &mut 
 /// Small sheets with rooms of all sizes.
 fn rooms(checker: &mut Checker) -> bool {
     let started = Instant::now();
-    let others: [(&[u8], &[(usize, usize)]); 10] = [
+    let others: [(&[u8], &[(usize, usize)]); 12] = [
         (b"a", &[(0, 1)]),
         (b"a", &[(0, 0), (1, 1)]),
         (b"[[[[", &[(0, 4)]),
@@ -71,6 +73,8 @@ fn rooms(checker: &mut Checker) -> bool {
         (b"[a][][b][]{", &[(0, 11)]),
         (b"{[a][]", &[(0, 6)]),
         (b"x![\xff\xc3][]", &[(1, 7)]),
+        (b"*<a>&* $`b`\\\n\"c\"", &[(0, 13), (13, 16)]),
+        (b"`<b>`{=html}\xff<", &[(0, 14)]),
     ];
     let mut sheets: Vec<Sheet> = WORKED.iter().map(|w| w.sheet()).filter(|s| s.text.len() < 20).collect();
     sheets.extend(others.iter().map(|(text, lines)| Sheet::new(text, lines)));
@@ -127,14 +131,6 @@ fn repeated(s: &[u8], len: usize) -> Vec<u8> {
     s.iter().copied().cycle().take(len).collect()
 }
 
-/// A line for each newline.
-fn by_newline(text: Vec<u8>) -> Sheet {
-    let ends: Vec<usize> = (0..text.len()).filter(|&p| text[p] == b'\n' || p + 1 == text.len()).map(|p| p + 1).collect();
-    let mut starts = vec![0];
-    starts.extend(&ends[..ends.len() - 1]);
-    Sheet { text, starts, ends }
-}
-
 /// Sheets of the largest text and of the longest line list, and such that go beyond.
 fn largest() -> Vec<Sheet> {
     let cell = b"*12* `R-07` left \"[K1][]\" -- [a b](c\nd) $`x`\n";
@@ -144,8 +140,8 @@ fn largest() -> Vec<Sheet> {
     let bytes: Vec<(usize, usize)> = (0..LARGEST).map(|p| (p, p + 1)).collect();
     let mut sheets = vec![
         Sheet::line(&letters[..LARGEST]),
-        by_newline(repeated(cell, LARGEST)),
-        by_newline(newlines),
+        Sheet::by_newline(&repeated(cell, LARGEST)),
+        Sheet::by_newline(&newlines),
         Sheet::new(&repeated(cell, LARGEST), &bytes),
         Sheet::new(&letters[..LARGEST], &[]),
         Sheet::new(&letters[..LARGEST], &[(LARGEST, LARGEST)]),
@@ -181,7 +177,7 @@ fn largest() -> Vec<Sheet> {
 fn large(checker: &mut Checker) -> bool {
     let started = Instant::now();
     let sheets = largest();
-    let nothing = Sizes { events: 0, queue: 0, openers: 0, labels: 0 };
+    let nothing = Sizes::default();
     for sheet in &sheets {
         let read = checker.right(sheet, 5) && checker.right(sheet, 5);
         if !read || ![2, 3, 1 << 31, u32::MAX].iter().all(|&reading| right(checker, sheet, reading, &nothing)) {

@@ -4,13 +4,14 @@ use crate::mivurakol::{code, Answer, EVENT_NUMBERS, LABEL_LIMIT, LARGEST, OPENER
 use crate::sheet::Sheet;
 use crate::theirs::RustAnswer;
 
-/// The lengths of the four rooms: numbers, and bytes of the label room.
-#[derive(Clone, Copy, Debug, PartialEq, Eq)]
+/// The lengths of the rooms: numbers, and bytes of the label room and of a fragment's output room.
+#[derive(Clone, Copy, Debug, Default, PartialEq, Eq)]
 pub struct Sizes {
     pub events: usize,
     pub queue: usize,
     pub openers: usize,
     pub labels: usize,
+    pub out: usize,
 }
 
 fn refused(code: u32, place: usize) -> Answer {

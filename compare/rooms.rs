@@ -83,12 +83,13 @@ impl<T: Copy + Default + PartialEq> Room<T> {
     }
 }
 
-/// All four.
+/// All four, and the output room of a fragment.
 pub struct Rooms {
     pub events: Room<u32>,
     pub queue: Room<u32>,
     pub openers: Room<u32>,
     pub labels: Room<u8>,
+    pub out: Room<u8>,
 }
 
 impl Rooms {
@@ -99,23 +100,41 @@ impl Rooms {
         let events = Room::new(&mut number);
         let queue = Room::new(&mut number);
         let openers = Room::new(&mut number);
-        Rooms { events, queue, openers, labels: Room::new(|| number() as u8) }
+        Rooms { events, queue, openers, labels: Room::new(|| number() as u8), out: Room::new(|| number() as u8) }
     }
 
     pub fn lend(&mut self, sizes: &Sizes) -> mivurakol::Rooms<'_> {
-        let Rooms { events, queue, openers, labels } = self;
+        self.lend_output(&Sizes { out: 0, ..*sizes }).0
+    }
+
+    /// The four, and the output room.
+    pub fn lend_output(&mut self, sizes: &Sizes) -> (mivurakol::Rooms<'_>, &mut [u8]) {
+        let Rooms { events, queue, openers, labels, out } = self;
         events.lend(sizes.events);
         queue.lend(sizes.queue);
         openers.lend(sizes.openers);
         labels.lend(sizes.labels);
-        mivurakol::Rooms { events: events.room_mut(), queue: queue.room_mut(), openers: openers.room_mut(), labels: labels.room_mut() }
+        out.lend(sizes.out);
+        let four = mivurakol::Rooms { events: events.room_mut(), queue: queue.room_mut(), openers: openers.room_mut(), labels: labels.room_mut() };
+        (four, out.room_mut())
     }
 
-    /// What is wrong with them after a call: after the codes to `OPENER_ROOM` they are untouched,
+    /// What is wrong with the output room: this stands from the front, and all else is zero.
+    pub fn wrong_output(&self, fragment: &[u8]) -> Option<&'static str> {
+        if !self.out.guarded() {
+            Some("it is written outside the output room")
+        } else if !self.out.holds(fragment) {
+            Some("the output room differs")
+        } else {
+            None
+        }
+    }
+
+    /// What is wrong with the four after a call: after the codes to `OPENER_ROOM` they are untouched,
     /// after the later ones they are zero, and after `ACCEPTED` these events and labels stand from
     /// the front, and all else is zero.
     pub fn wrong(&self, code: u32, events: &[Event], labels: &[u8]) -> Option<&'static str> {
-        let Rooms { events: e, queue: q, openers: o, labels: l } = self;
+        let Rooms { events: e, queue: q, openers: o, labels: l, .. } = self;
         if (code::READING..=code::OPENER_ROOM).contains(&code) {
             return (!(e.untouched() && q.untouched() && o.untouched() && l.untouched())).then_some("a room is touched");
         }

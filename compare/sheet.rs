@@ -22,6 +22,13 @@ impl Sheet {
         Sheet::new(text, &[(0, text.len())])
     }
 
+    /// Each line of a text with its newline.
+    pub fn by_newline(text: &[u8]) -> Self {
+        let ends: Vec<usize> = (0..text.len()).filter(|&p| text[p] == b'\n' || p + 1 == text.len()).map(|p| p + 1).collect();
+        let starts = std::iter::once(0).chain(ends.iter().copied()).take(ends.len()).collect();
+        Sheet { text: text.to_vec(), starts, ends }
+    }
+
     /// Sets the lines.
     pub fn cut(&mut self, lines: &[(usize, usize)]) {
         self.starts.clear();

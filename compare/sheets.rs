@@ -1,12 +1,14 @@
-//! The reader against the Rust: worked sheets, all short ones over some alphabets, random ones.
+//! The reader and the fragment against the Rust: worked sheets, all short ones over some alphabets, random ones.
 
 use crate::check::Checker;
-use crate::mivurakol::{code, EVENT_NUMBERS, OPENER_NUMBERS, QUEUE_NUMBERS};
+use crate::lending::SURE;
+use crate::mivurakol::{code, FragmentAnswer, EVENT_NUMBERS, OPENER_NUMBERS, QUEUE_NUMBERS};
 use crate::model::Sizes;
 use crate::random::{strings, Random};
 use crate::shapes::{any, names, shapes, SHAPES};
 use crate::sheet::Sheet;
 use crate::worked::WORKED;
+use crate::written::WRITTEN;
 use crate::{limits, lookup, model};
 use std::time::Instant;
 
@@ -16,14 +18,22 @@ const ALPHABETS: &[&[u8]] = &[b"`$\\ \na=}{b", b"[]()!\\\na^*`", b"*_{}'\" \na-.
 /// Few bytes, for longer strings: links, verbatim, math, images, quotes.
 const FEW: &[&[u8]] = &[b"[](\na", b"` \\\na", b"`$\\\na", b"[]`!\n", b"{'\" *a", b"[]{*}a"];
 
+/// After how many sheets it is said how far a run is.
+const PROGRESS: u64 = 2_000_000;
+
 /// Document 01's own sheets, against its own answers.
 fn worked(checker: &mut Checker) -> bool {
     for w in WORKED {
         let sheet = w.sheet();
         let n = sheet.fed();
         checker.expect.ask(&sheet, w.reading);
-        let sizes =
-            Sizes { events: EVENT_NUMBERS * (n + 1), queue: QUEUE_NUMBERS * (2 * n + 1), openers: OPENER_NUMBERS * n, labels: w.labels.len() };
+        let sizes = Sizes {
+            events: EVENT_NUMBERS * (n + 1),
+            queue: QUEUE_NUMBERS * (2 * n + 1),
+            openers: OPENER_NUMBERS * n,
+            labels: w.labels.len(),
+            out: 0,
+        };
         let called = checker.call(&sheet, w.reading, &sizes);
         let (events, labels) = checker.left();
         let given = events[..EVENT_NUMBERS * w.events.len()] == *w.events.as_flattened() && *labels == *w.labels;
@@ -33,6 +43,32 @@ fn worked(checker: &mut Checker) -> bool {
         }
     }
     println!("sheets: {} worked through in document 01", WORKED.len());
+    true
+}
+
+/// Fragments written out by hand, and their refusals, with output rooms of 0 bytes, one short, exact, one more and as long as always suffices.
+fn written(checker: &mut Checker) -> bool {
+    for (text, written) in WRITTEN {
+        let sheet = Sheet::by_newline(text.as_bytes());
+        checker.expect.ask(&sheet, 0);
+        let sure = checker.expect.need.sizes(&SURE);
+        for out in [0, sure.out.saturating_sub(1), sure.out, sure.out + 1, checker.expect.need.out] {
+            let sizes = Sizes { out, ..sure };
+            let called = checker.call(&sheet, 0, &sizes);
+            let read = checker.expect.answer(&sheet, 0, &sizes);
+            let FragmentAnswer { code, place, length, .. } = checker.expect.fragment_answer(&read, out);
+            let right = match written {
+                Err(at) => (code, place) == (code::LINKED, *at),
+                Ok(html) if out < html.len() => (code, place) == (code::OUTPUT_ROOM, 0),
+                Ok(html) => code == code::ACCEPTED && length as usize == html.len() && checker.expect.fragment == html.as_bytes(),
+            };
+            if called.is_err() || !right {
+                checker.print(&sheet, 0, &sizes, &format!("document 02 has {written:?}: {called:?}, then {code} at {place}, {length} bytes"));
+                return false;
+            }
+        }
+    }
+    println!("sheets: {} fragments written out by hand", WRITTEN.len());
     true
 }
 
@@ -93,7 +129,10 @@ fn random(checker: &mut Checker, sheets: u64, seed: u64) -> bool {
     let mut sheet = Sheet::default();
     let mut shaped = [0u64; SHAPES];
     let (mut damaged, mut unfit) = (0u64, 0u64);
-    for _ in 0..sheets {
+    for i in 0..sheets {
+        if i > 0 && i % PROGRESS == 0 {
+            eprintln!("sheets: {i} of {sheets} random ones ({:.0?})", started.elapsed());
+        }
         damaged += u64::from(any(&mut r, &mut sheet));
         if model::unfit(&sheet, 0).is_some() {
             unfit += 1;
@@ -115,19 +154,18 @@ fn random(checker: &mut Checker, sheets: u64, seed: u64) -> bool {
     true
 }
 
-/// How many sheets were compared, and with how many calls on line records and on starts and ends; none if there is a difference.
-pub fn compare(sheets: u64, seed: u64) -> Option<(u64, [u64; 2])> {
+/// What compared the sheets, with its counts; none if there is a difference.
+pub fn compare(sheets: u64, seed: u64) -> Option<Checker> {
     let mut checker = Checker::new(seed);
     let c = &mut checker;
-    if !(worked(c) && lookup::compare(seed) && limits::compare(c) && random(c, sheets, seed) && short(c)) {
+    if !(worked(c) && written(c) && lookup::compare(seed) && limits::compare(c) && random(c, sheets, seed) && short(c)) {
         return None;
     }
     for (reading, c) in checker.counts.iter().enumerate() {
-        let answers: Vec<_> = c.answers.iter().enumerate().map(|(code, n)| format!("{code}: {n}")).collect();
         println!(
             "reading {reading}: answers {}; {} lists by the laws, {} of them 16 deep, {} with math over a line's end, {} links, {} sheets with \
              built labels, {} labels looked up",
-            answers.join(", "),
+            by_code(&c.answers),
             c.lists,
             c.deep,
             c.over,
@@ -136,5 +174,12 @@ pub fn compare(sheets: u64, seed: u64) -> Option<(u64, [u64; 2])> {
             c.lookups
         );
     }
-    Some((checker.sheets, checker.calls))
+    println!("fragments: answers {}", by_code(&checker.fragments));
+    Some(checker)
+}
+
+/// How often each code was answered.
+fn by_code(answers: &[u64]) -> String {
+    let each: Vec<_> = answers.iter().enumerate().map(|(code, n)| format!("{code}: {n}")).collect();
+    each.join(", ")
 }

@@ -17,7 +17,8 @@ use crate::worked::WORKED;
 /// What the program that replays them has room for.
 const TEXT: usize = 1200;
 const LINES: usize = 64;
-const MOST: Sizes = Sizes { events: EVENT_NUMBERS * (TEXT + 1), queue: QUEUE_NUMBERS * (2 * TEXT + 1), openers: OPENER_NUMBERS * TEXT, labels: TEXT };
+const MOST: Sizes =
+    Sizes { events: EVENT_NUMBERS * (TEXT + 1), queue: QUEUE_NUMBERS * (2 * TEXT + 1), openers: OPENER_NUMBERS * TEXT, labels: TEXT, out: 0 };
 
 /// How many random sheets; of these, how many are read otherwise in reading 1.
 const SHEETS: usize = 260;
@@ -42,7 +43,7 @@ fn listed<T: std::fmt::Display>(out: &mut String, numbers: &[T]) {
 /// A case, if there is room for it. Whether there was.
 fn case(sheet: &Sheet, reading: u32, lending: &Lending, expect: &Expect) -> bool {
     let sizes = expect.need.sizes(lending);
-    let Sizes { events, queue, openers, labels } = sizes;
+    let Sizes { events, queue, openers, labels, .. } = sizes;
     let lines = sheet.starts.len().max(sheet.ends.len());
     let rooms = events <= MOST.events && queue <= MOST.queue && openers <= MOST.openers && labels <= MOST.labels;
     if sheet.text.len() > TEXT || lines > LINES || !rooms {

@@ -1,8 +1,9 @@
-/* The reader of Djot inline text, from C: the static library of crates/mivurakol.
+/* The reader of Djot inline text, and the fragment of HTML that is written of what it reads, from C:
+ * the static libraries of crates/mivurakol and, for mivurakol_fragment alone, crates/mivurakol_html.
  *
- * No pointer may be null, also for a length of 0. The four rooms lie apart from one another and
- * from the text and the lines. Any lengths and any contents are answered; nothing outside the rooms
- * is written, and nothing is kept after the call.
+ * No pointer may be null, also for a length of 0. The rooms lie apart from one another and from the
+ * text and the lines. Any lengths and any contents are answered; nothing outside the rooms is
+ * written, and nothing is kept after the call.
  */
 #ifndef MIVURAKOL_H
 #define MIVURAKOL_H
@@ -104,6 +105,12 @@ extern "C" {
 #define MIVURAKOL_CODE_LABEL_ROOM 8
 /* The event room does not hold the events; never for whoever lends N + 1 records. */
 #define MIVURAKOL_CODE_EVENT_ROOM 9
+/* Of a fragment alone: a link, an image, an autolink or a footnote reference, the first of them,
+ * begins at byte `place`. */
+#define MIVURAKOL_CODE_LINKED 10
+/* Of a fragment alone: the output room is shorter than the fragment; never for whoever lends
+ * MIVURAKOL_FRAGMENT_ROOM bytes. */
+#define MIVURAKOL_CODE_OUTPUT_ROOM 11
 
 /* The answer. A refusal has events and labels 0, and place 0 unless said. After the codes from
  * MIVURAKOL_CODE_READING to MIVURAKOL_CODE_OPENER_ROOM no room is written. After a later code
@@ -131,6 +138,42 @@ mivurakol_answer mivurakol_read(
     uint32_t *queue, size_t queue_len,
     uint32_t *openers, size_t openers_len,
     uint8_t *labels, size_t labels_len);
+
+/* The answer of a fragment. A refusal has events, labels and length 0, and place as above. */
+typedef struct {
+    uint32_t code;
+    uint32_t place;
+    uint32_t events; /* how many */
+    uint32_t labels; /* bytes used of the label room */
+    uint32_t length; /* bytes of the fragment */
+} mivurakol_fragment_answer;
+
+/* So many bytes of output room hold the fragment of any sheet with N bytes in its lines. */
+#define MIVURAKOL_FRAGMENT_ROOM(n) (5 * (size_t)(n) + 29 * ((size_t)(n) + 1))
+
+/* Reads the lines of a text, as mivurakol_read, and writes what it reads as a fragment of HTML from
+ * the front of the output room, in UTF-8 if the text is.
+ *
+ * Subscript, superscript, insert, delete, emphasis, strong, mark and verbatim are the elements sub,
+ * sup, ins, del, em, strong, mark and code. Math is <span class="math inline">\( to \)</span> or
+ * <span class="math display">\[ to \]</span>. `&`, `<` and `>` of the text become &amp;, &lt; and
+ * &gt;. Quotes, dashes, ellipsis and no-break space are their Unicode characters; a symbol stands
+ * with its colons; a soft break is a newline, a hard break <br> and a newline. Escapes write
+ * nothing, and raw parts are left out.
+ *
+ * The refusals of mivurakol_read come first, as they are, then MIVURAKOL_CODE_LINKED, then
+ * MIVURAKOL_CODE_OUTPUT_ROOM. After these two the four rooms are zero; else they are as
+ * mivurakol_read leaves them. The output room is zero behind the fragment, and all of it after any
+ * refusal, also where no other room is written. */
+mivurakol_fragment_answer mivurakol_fragment(
+    const uint8_t *text, size_t text_len,
+    const mivurakol_line *lines, size_t lines_len,
+    uint32_t reading,
+    uint32_t *events, size_t events_len,
+    uint32_t *queue, size_t queue_len,
+    uint32_t *openers, size_t openers_len,
+    uint8_t *labels, size_t labels_len,
+    uint8_t *out, size_t out_len);
 
 /* `len` bytes from `start` of the text or of the label room. */
 typedef struct {

@@ -1,4 +1,5 @@
-//! The reader for Rust: safe functions over the C interface of the static library `libmivurakol.a`.
+//! The reader and the fragment for Rust: safe functions over the C interface of the static libraries
+//! `libmivurakol.a` and, for `fragment` alone, `libmivurakol_html.a`.
 //! Any arguments will do, rooms of length 0 included. Its numbers have their names here.
 
 /// Numbers in a record of the event room, of the queue room and of the opener room.
@@ -106,6 +107,10 @@ pub mod code {
     pub const LABEL_ROOM: u32 = 8;
     /// The event room does not hold the events; never for whoever lends N + 1 records.
     pub const EVENT_ROOM: u32 = 9;
+    /// Of a fragment: it would have a link, an image, an autolink or a footnote reference.
+    pub const LINKED: u32 = 10;
+    /// Of a fragment: the output room is too short; never for whoever lends `fragment_room` bytes.
+    pub const OUTPUT_ROOM: u32 = 11;
 }
 
 /// What is answered of a sheet. A refusal has events and labels 0.
@@ -120,6 +125,27 @@ pub struct Answer {
     pub events: u32,
     /// How many bytes of labels stand in the label room.
     pub labels: u32,
+}
+
+/// What is answered of a fragment. A refusal has events, labels and length 0.
+#[repr(C)]
+#[derive(Clone, Copy, Debug, Default, PartialEq, Eq)]
+pub struct FragmentAnswer {
+    /// One of `code`.
+    pub code: u32,
+    /// As in `Answer`; after `LINKED` a place in the text.
+    pub place: u32,
+    /// How many events stand in the event room.
+    pub events: u32,
+    /// How many bytes of labels stand in the label room.
+    pub labels: u32,
+    /// How many bytes of the fragment stand in the output room.
+    pub length: u32,
+}
+
+/// So many bytes of output room hold the fragment of any sheet with so many bytes in its lines.
+pub const fn fragment_room(fed: usize) -> usize {
+    5 * fed + 29 * (fed + 1)
 }
 
 /// A line of the text: from start to before end.
@@ -163,6 +189,23 @@ extern "C" {
         labels: *mut u8,
         labels_len: usize,
     ) -> Answer;
+    fn mivurakol_fragment(
+        text: *const u8,
+        text_len: usize,
+        lines: *const Line,
+        lines_len: usize,
+        reading: u32,
+        events: *mut u32,
+        events_len: usize,
+        queue: *mut u32,
+        queue_len: usize,
+        openers: *mut u32,
+        openers_len: usize,
+        labels: *mut u8,
+        labels_len: usize,
+        out: *mut u8,
+        out_len: usize,
+    ) -> FragmentAnswer;
     fn mivurakol_label(text: *const u8, text_len: usize, labels: *const u8, labels_len: usize, home: u32, start: u32, end: u32) -> Part;
 }
 
@@ -186,6 +229,32 @@ pub fn read(text: &[u8], lines: &[Line], reading: u32, rooms: &mut Rooms) -> Ans
             openers.len(),
             labels.as_mut_ptr(),
             labels.len(),
+        )
+    }
+}
+
+/// Reads a sheet, as `read`, and writes its fragment of HTML from the front of the output room, with
+/// zeros behind it. After a refusal the output room is zero.
+pub fn fragment(text: &[u8], lines: &[Line], reading: u32, rooms: &mut Rooms, out: &mut [u8]) -> FragmentAnswer {
+    let Rooms { events, queue, openers, labels } = rooms;
+    // SAFETY: as above, with a fifth slice that is written to.
+    unsafe {
+        mivurakol_fragment(
+            text.as_ptr(),
+            text.len(),
+            lines.as_ptr(),
+            lines.len(),
+            reading,
+            events.as_mut_ptr(),
+            events.len(),
+            queue.as_mut_ptr(),
+            queue.len(),
+            openers.as_mut_ptr(),
+            openers.len(),
+            labels.as_mut_ptr(),
+            labels.len(),
+            out.as_mut_ptr(),
+            out.len(),
         )
     }
 }

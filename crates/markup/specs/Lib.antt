@@ -1,0 +1,3 @@
+pub mod Markup
+pub mod Shown
+pub mod Worked
