@@ -22,6 +22,10 @@ pub struct Sheet {
 
 const KIB: usize = 1024;
 
+/// The bytes of a line, where a text is cut into lines.
+#[cfg(braces)]
+const LINE: usize = 80;
+
 /// Words that follow no pattern, from a linear congruence.
 struct Dice(u64);
 
@@ -213,4 +217,42 @@ pub fn openers() -> Case {
 /// Openers that never close, each with a token behind it that searches through all of them in vain.
 pub fn searches() -> Case {
     lines("d  searches, 16 KiB", filled(16 * KIB, |text| text.push_str("[)")))
+}
+
+/// So many bytes: something, and a piece over and over, in one line.
+#[cfg(braces)]
+fn repeated(before: &str, piece: &str, size: usize) -> String {
+    before.chars().chain(piece.chars().cycle()).take(size).collect()
+}
+
+/// A text in lines: the last byte of each becomes a newline.
+#[cfg(braces)]
+fn cut(text: &str) -> String {
+    text.char_indices().map(|(i, c)| if i % LINE == LINE - 1 { '\n' } else { c }).collect()
+}
+
+/// Braces at which no attribute block stands, each text in one line and in lines. No more than three validators are undecided at a time: behind a
+/// comment and a quoted value that never end, one more. Letters keep three so to the end; a brace at each byte takes the most steps.
+#[cfg(braces)]
+pub fn braces() -> Vec<Case> {
+    const DOORS: &str = "{door 12} relay {R-07 left ";
+    const OPEN: &str = "{%{k=\"";
+    const THREE: &str = "{%{k=\"{.";
+    [
+        (["g  `{a=\"` in a line", "g  `{a=\"` in lines"], "", "{a=\"", 64),
+        (["h  `{%` in a line", "h  `{%` in lines"], "", "{%", 64),
+        (["i  `{ ` in a line", "i  `{ ` in lines"], "", "{ ", 64),
+        (["j  doors in a line", "j  doors in lines"], "", DOORS, 64),
+        (["k  three in a line", "k  three in lines"], THREE, "a", 64),
+        (["l  worst 16K a line", "l  worst 16K lines"], OPEN, "{", 16),
+        (["l  worst 64K a line", "l  worst 64K lines"], OPEN, "{", 64),
+        (["l  worst 256K a line", "l  worst 256K lines"], OPEN, "{", 256),
+    ]
+    .into_iter()
+    .flat_map(|([one, many], before, piece, kib)| {
+        let text = repeated(before, piece, kib * KIB);
+        let in_lines = cut(&text);
+        [lines(one, text), lines(many, in_lines)]
+    })
+    .collect()
 }

@@ -1,6 +1,7 @@
 //! Measures the reader beside the Rust (`inline.rs`, `lex.rs` and `attr.rs` of the documents, as they stand) and beside a plain clear of the
 //! same rooms: medians of interleaved rounds, in nanoseconds for a byte and as ratios to the Rust. Status 1 if a bar is missed.
-//! With `--cfg fragments` it is another program, which measures fragments: in one program each would be measured with the other's code beside it.
+//! With `--cfg fragments` it is another program, which measures fragments, and with `--cfg braces` a third, which measures lone braces: in one program
+//! each would be measured with the others' code beside it.
 
 #[allow(dead_code, unused_imports)]
 mod attr {
@@ -16,7 +17,7 @@ mod lex {
 }
 type CowStr<'s> = std::borrow::Cow<'s, str>;
 
-#[cfg_attr(fragments, allow(dead_code))]
+#[cfg_attr(any(fragments, braces), allow(dead_code))]
 mod cases;
 #[cfg(fragments)]
 mod fragments;
@@ -189,9 +190,10 @@ fn quantile(values: &[f64], share: f64) -> f64 {
 /// What a bar allows ours, by what the Rust and the clearing take.
 type Bar = (&'static str, fn(f64, f64) -> f64);
 
+#[cfg(not(braces))]
 const HALF: Bar = ("half of the Rust", |rust, _| rust / 2.0);
 const WITH_CLEARING: Bar = ("the Rust and the clearing", |rust, clear| rust + clear);
-#[cfg(not(fragments))]
+#[cfg(not(any(fragments, braces)))]
 const NO_SLOWER: Bar = ("the Rust", |rust, _| rust);
 #[cfg(fragments)]
 const NONE: Bar = ("anything", |_, _| f64::INFINITY);
@@ -241,7 +243,7 @@ fn measure(mut case: Case, bar: Bar) -> bool {
     met
 }
 
-#[cfg(not(fragments))]
+#[cfg(not(any(fragments, braces)))]
 fn all() -> bool {
     println!("Medians of {ROUNDS} rounds: nanoseconds for a byte, and ratios to the Rust.");
     println!("case                  bytes      Rust     ours  clearing  ours/Rust  quartiles  without it  clearing   ours at most");
@@ -258,7 +260,7 @@ fn all() -> bool {
     met
 }
 
-/// Below the other program's lines. In ample room there is no bar.
+/// Below the first program's lines, and so the next. In ample room there is no bar.
 #[cfg(fragments)]
 fn all() -> bool {
     let mut met = true;
@@ -269,6 +271,16 @@ fn all() -> bool {
         (cases::shown(AMPLE_SHEET), NONE),
     ] {
         met &= measure(case, bar);
+    }
+    met
+}
+
+/// The last text has three sizes: the time for a byte is the same in each if the work is linear.
+#[cfg(braces)]
+fn all() -> bool {
+    let mut met = true;
+    for case in cases::braces() {
+        met &= measure(case, WITH_CLEARING);
     }
     met
 }

@@ -15,7 +15,7 @@ use crate::random::Random;
 use crate::shapes::{any, cut};
 use crate::sheet::Sheet;
 use crate::shown::shown;
-use crate::worked::WORKED;
+use crate::worked::{BRACES, WORKED};
 use crate::written::WRITTEN;
 use std::fmt::Write;
 use std::path::{Path, PathBuf};
@@ -37,7 +37,7 @@ const PIECES: &[&str] = &[
     "&copy", "&notit;", "&;", "<", ">", "<<", ">>", "< ", "</", "/>", "=", "\" onclick=\"hurts()", "' x='", "\\", "\\<", "\\>", "\\&", "\\)",
     "\\]", "\0", "\0\0", "\r", "\r\n", "\r\0\n", "\x0c", "\x0b", "\x01", "\x1b", "\x7f", "\u{80}", "\u{85}", "\u{a0}", "\u{ad}", "\u{200b}",
     "\u{202e}", "\u{2028}", "\u{feff}", "\u{fffd}", "\u{fffe}", "\u{10ffff}", "é", "e\u{301}", "漢字", "😀", "👩‍🔧", "12", "R-07", "left", " ", " ",
-    "\n", "\\\n", "\\ ", "--", "---", "...", ":lock:", "'", "\"",
+    "\n", "\\\n", "\\ ", "--", "---", "...", ":lock:", "'", "\"", "{", "{door", "{% ",
 ];
 
 /// What stands around them: first those that nest in one another.
@@ -185,12 +185,12 @@ fn place(sheet: Sheet, reading: u32, expect: &mut Expect) -> Option<Place> {
     Some(Place { sheet, reading, html, form })
 }
 
-/// The sheets of document 01, the fragments written out by hand, and random sheets: any, and hostile ones. An empty fragment says nothing.
+/// The sheets of the documents, the fragments written out by hand, and random sheets: any, and hostile ones. An empty fragment says nothing.
 fn places(seed: u64) -> Vec<Place> {
     let mut expect = Expect::new();
     let mut r = Random::new(seed);
     let mut places: Vec<Place> = Vec::new();
-    places.extend(WORKED.iter().filter_map(|w| place(w.sheet(), w.reading, &mut expect)));
+    places.extend(WORKED.iter().chain(BRACES).filter_map(|w| place(w.sheet(), w.reading, &mut expect)));
     places.extend(WRITTEN.iter().filter_map(|(text, _)| place(Sheet::by_newline(text.as_bytes()), 0, &mut expect)));
     for hostile in [false, true] {
         let end = places.len() + SHEETS;

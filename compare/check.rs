@@ -23,6 +23,10 @@ const SEARCH: Duration = Duration::from_secs(20);
 pub struct Counts {
     /// By code.
     pub answers: [u64; code::EVENT_ROOM as usize + 1],
+    /// Sheets that are read with a lone brace; and such that are refused at an attribute block, and those of them with a lone brace before it.
+    pub lone: u64,
+    pub blocks: u64,
+    pub behind: u64,
     pub lists: u64,
     pub links: u64,
     pub built: u64,
@@ -210,6 +214,17 @@ impl Checker {
         self.laws.broken(sheet, reading, events).map_or(Ok(()), Err)
     }
 
+    fn count_braces(&mut self, reading: u32) {
+        let counts = &mut self.counts[reading as usize];
+        let lone = u64::from(!self.expect.rust.lone.is_empty());
+        if self.expect.rust.brace.is_some() {
+            counts.blocks += 1;
+            counts.behind += lone;
+        } else {
+            counts.lone += lone;
+        }
+    }
+
     /// One sheet with one lending, and its list.
     fn once(&mut self, sheet: &Sheet, reading: u32, lending: &Lending) -> Result<(), String> {
         self.expect.ask(sheet, reading);
@@ -240,6 +255,7 @@ impl Checker {
     /// One sheet in one reading, with the lending that is for every sheet and so many others. The lending that shows a difference.
     fn check(&mut self, sheet: &Sheet, reading: u32, turns: usize) -> Result<(), Lending> {
         self.expect.ask(sheet, reading);
+        self.count_braces(reading);
         let sure = Lending { out: self.output(reading), ..SURE };
         self.lend(sheet, reading, &sure).map_err(|_| sure)?;
         if self.expect.readable() {
@@ -298,7 +314,7 @@ impl Checker {
         println!("starts {:?}, ends {:?}", sheet.starts, sheet.ends);
         let (events, labels) = self.left();
         let rust = &self.expect.rust;
-        println!("the Rust: events {:?}, labels {:?}, brace {:?}", rust.events, rust.labels, rust.brace);
+        println!("the Rust: events {:?}, labels {:?}, a block at {:?}, lone braces at {:?}", rust.events, rust.labels, rust.brace, rust.lone);
         println!("ours: event room {events:?}, label room {labels:?}");
         println!("its fragment: {:?}", String::from_utf8_lossy(&self.expect.fragment));
         println!("ours: output room {:?}", String::from_utf8_lossy(self.rooms.out.room()));

@@ -74,7 +74,7 @@ const BUILT: &[Lending] = &[
     Lending { labels: Less(2), ..SURE },
 ];
 
-/// For sheets that are refused at a brace.
+/// For sheets that are refused at an attribute block.
 const BRACED: &[Lending] = &[
     Lending { events: Nothing, labels: Nothing, ..EXACT },
     Lending { queue: Less(1), ..SURE },

@@ -7,7 +7,7 @@ use crate::mivurakol::{self, code, Answer, Line, ENTER, EVENT_NUMBERS, EXIT, LAB
 use crate::model::Sizes;
 use crate::random::strings;
 use crate::sheet::Sheet;
-use crate::worked::WORKED;
+use crate::worked::{BRACES, WORKED};
 use std::time::Instant;
 
 /// One sheet in one reading with some rooms, to be asked about first.
@@ -62,7 +62,7 @@ fn all_together(checker: &mut Checker, sheet: &Sheet, reading: u32, calls: &mut 
 /// Small sheets with rooms of all sizes.
 fn rooms(checker: &mut Checker) -> bool {
     let started = Instant::now();
-    let others: [(&[u8], &[(usize, usize)]); 12] = [
+    let others: [(&[u8], &[(usize, usize)]); 16] = [
         (b"a", &[(0, 1)]),
         (b"a", &[(0, 0), (1, 1)]),
         (b"[[[[", &[(0, 4)]),
@@ -72,11 +72,15 @@ fn rooms(checker: &mut Checker) -> bool {
         (b"[](\n)[](\n)", &[(0, 4), (4, 9), (9, 10)]),
         (b"[a][][b][]{", &[(0, 11)]),
         (b"{[a][]", &[(0, 6)]),
+        (b"[a][][b][]{}", &[(0, 12)]),
+        (b"{.a}[b][]", &[(0, 9)]),
+        (b"[a{\n%}][] {a=\"", &[(0, 4), (6, 15)]),
+        (b"`a\n`{a=\"\n%\"}", &[(0, 3), (3, 10), (11, 13)]),
         (b"x![\xff\xc3][]", &[(1, 7)]),
         (b"*<a>&* $`b`\\\n\"c\"", &[(0, 13), (13, 16)]),
         (b"`<b>`{=html}\xff<", &[(0, 14)]),
     ];
-    let mut sheets: Vec<Sheet> = WORKED.iter().map(|w| w.sheet()).filter(|s| s.text.len() < 20).collect();
+    let mut sheets: Vec<Sheet> = WORKED.iter().chain(BRACES).map(|w| w.sheet()).filter(|s| s.text.len() < 20).collect();
     sheets.extend(others.iter().map(|(text, lines)| Sheet::new(text, lines)));
     let mut calls = 0;
     for sheet in &sheets {
@@ -115,7 +119,7 @@ fn lists(checker: &mut Checker, text: &[u8], places: &[usize], most: usize) -> b
 fn lines(checker: &mut Checker) -> bool {
     let started = Instant::now();
     let before = checker.sheets;
-    for text in [b"".as_slice(), b"*a*", b"`\\`", b"{a", b"[]["] {
+    for text in [b"".as_slice(), b"*a*", b"`\\`", b"{a", b"[][", b"{ }"] {
         let far = [0, 1, 3, 1 << 32, (1 << 32) + 1, 1 << 63, usize::MAX];
         if !(lists(checker, text, &[0, 1, 2, 3, 4], 3) && lists(checker, text, &far, 2)) {
             return false;
@@ -129,6 +133,11 @@ fn lines(checker: &mut Checker) -> bool {
 /// A text of so many bytes: this, over and over, and the front of it.
 fn repeated(s: &[u8], len: usize) -> Vec<u8> {
     s.iter().copied().cycle().take(len).collect()
+}
+
+/// The largest text with something before and behind it.
+fn around(before: &[u8], s: &[u8], behind: &[u8]) -> Vec<u8> {
+    [before, &repeated(s, LARGEST - before.len() - behind.len()), behind].concat()
 }
 
 /// Sheets of the largest text and of the longest line list, and such that go beyond.
@@ -151,7 +160,11 @@ fn largest() -> Vec<Sheet> {
         Sheet::new(&letters, &[(0, 1)]),
         Sheet::new(&letters, &[(1, 0)]),
         Sheet::line(&repeated(b"[", 1 << 14)),
-        Sheet::line(&repeated(b"{", 1 << 16)),
+        Sheet::line(&repeated(b"{", LARGEST)),
+        Sheet::by_newline(&repeated(b"{door 12 {a=\" {% relay {R-07\n", LARGEST)),
+        Sheet::line(&around(b"{%{k=\"", b"{", b"\"")),
+        Sheet::line(&around(b"{%{k=\"", b"{", b"%}")),
+        Sheet::new(&around(b"{%{k=\"", b"{ ", b"\"}"), &bytes),
         Sheet::line(&repeated(b"....", LARGEST)),
         Sheet::line(&repeated(b"`", LARGEST)),
     ];

@@ -55,9 +55,11 @@ mod shown;
 mod stored;
 mod theirs;
 mod tokens;
+mod validator;
 mod worked;
 mod written;
 
+use check::Counts;
 use mivurakol::code;
 
 /// Whether there is no difference; then the last line says so.
@@ -66,15 +68,17 @@ fn compare(random: u64, seed: u64) -> bool {
         return false;
     };
     let lines = random / 2;
-    if tokens::compare(lines, seed) || scans::compare(seed) {
+    if validator::compare() || tokens::compare(lines, seed) || scans::compare(seed) {
         return false;
     }
     let (sheets, [records, numbers]) = (checker.sheets, checker.calls);
     let fragments: u64 = checker.fragments.iter().sum();
     let [linked, short] = [code::LINKED, code::OUTPUT_ROOM].map(|code| checker.fragments[code as usize]);
+    let Counts { lone, blocks, .. } = checker.counts[0];
     println!(
-        "no difference in {sheets} sheets, {random} of them random, in both readings by {records} calls on line records and {numbers} on starts and \
-         ends, in {fragments} fragments, {linked} of them refused for a link and {short} for output room, and in the leaves"
+        "no difference in {sheets} sheets, {random} of them random, {lone} with a lone brace read as Str and {blocks} refused at an attribute block \
+         in reading 0, in both readings by {records} calls on line records and {numbers} on starts and ends, in {fragments} fragments, {linked} of \
+         them refused for a link and {short} for output room, and in the leaves"
     );
     true
 }

@@ -46,7 +46,7 @@ pub fn unfit(sheet: &Sheet, reading: u32) -> Option<Answer> {
     limits(sheet, reading).or_else(|| lines(sheet))
 }
 
-/// The answer to a sheet that is fit, from question 5 on: the Rust says which brace, labels and events there are.
+/// The answer to a sheet that is fit, from question 5 on: the Rust says which attribute block, labels and events there are.
 pub fn answer(fed: usize, sizes: &Sizes, rust: &RustAnswer) -> Answer {
     if sizes.queue / QUEUE_NUMBERS < 2 * fed + 1 {
         refused(code::QUEUE_ROOM, 0)

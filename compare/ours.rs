@@ -44,6 +44,7 @@ extern "C" {
     fn mivurakol_symbol(src: *const u8, len: usize, from: usize) -> Scanned;
     fn mivurakol_footnote(src: *const u8, len: usize, from: usize) -> Scanned;
     fn mivurakol_raw_format(src: *const u8, len: usize, from: usize) -> Scanned;
+    fn mivurakol_validate(bytes: *const u8, len: usize, state: u32) -> u32;
     fn mivurakol_hyphens(len: usize) -> Counts;
     fn mivurakol_periods(len: usize) -> Counts;
     fn mivurakol_read_numbers(
@@ -137,6 +138,11 @@ pub fn scan(what: Scan, src: &[u8], from: usize) -> Option<usize> {
         }
     };
     scanned.found.then_some(scanned.len)
+}
+
+/// The state of the validator behind some bytes, from a state: numbers in the order of the source's `State`. A state that is decided stays.
+pub fn validate(bytes: &[u8], state: u32) -> u32 {
+    unsafe { mivurakol_validate(bytes.as_ptr(), bytes.len(), state) }
 }
 
 /// The em and en dashes of a run of hyphens.

@@ -5,7 +5,7 @@ use crate::mivurakol::container::{AUTOLINK, MARK, REFERENCE_LINK, SUBSCRIPT};
 use crate::mivurakol::field::{HOME, KIND, LINK};
 use crate::mivurakol::{home, kind, Event, EXIT};
 use crate::random::Random;
-use crate::shapes::{cut, text};
+use crate::shapes::{braces, cut, text};
 use crate::sheet::Sheet;
 use crate::theirs::{self, RustAnswer};
 use std::ops::RangeInclusive;
@@ -57,13 +57,15 @@ fn row(sheet: &Sheet, reading: u32, rust: &RustAnswer) -> Option<String> {
     Some(format!("given {text} ({lines}[]) {reading} ({events}[]) {labels}"))
 }
 
-/// How often a sheet of its sort is taken, one in so many: links and containers always, a sheet of one Str never.
+/// How often a sheet of its sort is taken, one in so many: links and containers always, a sheet of one Str without a brace never.
 pub fn one_in(rust: &RustAnswer) -> u64 {
     let has = |kinds: RangeInclusive<u32>| rust.events.iter().any(|e| kinds.contains(&e[KIND]));
     if rust.brace.is_some() {
-        16
+        2
     } else if has(enters(SUBSCRIPT, MARK)) || has(enters(REFERENCE_LINK, AUTOLINK)) {
         1
+    } else if !rust.lone.is_empty() {
+        4
     } else if has(kind::SOFTBREAK..=EXIT - 1) {
         8
     } else {
@@ -86,7 +88,10 @@ pub fn print(seed: u64) {
     let mut rust = RustAnswer::default();
     let mut printed = 0;
     while printed < ROWS {
-        text(&mut r, &mut sheet.text);
+        match r.below(4) {
+            0 => braces(&mut r, &mut sheet.text),
+            _ => text(&mut r, &mut sheet.text),
+        }
         cut(&mut r, &mut sheet);
         let Ok(characters) = std::str::from_utf8(&sheet.text) else {
             continue;

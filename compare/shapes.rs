@@ -1,4 +1,4 @@
-//! Random sheets: any text cut anyhow, shapes that such a text seldom has, marked-up ones, and damaged copies of these.
+//! Random sheets: any text cut anyhow, shapes that such a text seldom has, braces, marked-up ones, and damaged copies of these.
 
 use crate::mivurakol::LONGEST_RUN;
 use crate::random::{Random, TELLING};
@@ -10,8 +10,26 @@ const PIECES: &[&str] = &[
     " `", "` ", " `` ", "$`", "$$`", "{=", "=}", "{=h}", "`{=h}", "[", "]", "(", ")", "![", "](", "][", "[]", "[a]", "[a](b)", "[a][b]",
     "[a][]", "[^", "[^a]", "^}", "<", ">", "<a:b>", "<a@b", ":", ":a:", "::", "@", "*", "_", "^", "~", "{*", "*}", "{_", "_}", "{^", "{~",
     "~}", "{-", "-}", "{+", "+}", "=", "+", "!", "|", "'", "\"", "{'", "'}", "{\"", "\"}", "-", "--", "---", "-----", ".", "..", "...", "....",
-    "}", "#", "text", "\0",
+    "}", "#", "text", "\0", "{", "%",
 ];
+
+/// What stands in, around and before attribute blocks: parts of them, marks that a brace follows or that it is inside of, and scans ahead.
+const BRACES: &[&str] = &[
+    "{", "{", "{", "}", "{}", "{ ", " }", "{.", "{.a", "{.a}", "{#", "{#a", "{#b-c}", "{a", "{a}", "{a=", "{a=b", "{a=b}", "{a=\"", "{a=\"b",
+    "\"", "\"}", "\" }", "\\\"", "\\", "\\\\", "%", "{%", "%}", "{% a %}", "{%}", "=", ".", "#", ":", "_", "-", "a", "b1", "é", "$", " ", "  ",
+    "\t", "\n", "\n", "\r\n", "\\\n", "*a*{", "_a_{", "`a`{", "[a]{", "[a](b){", "[a](b{", "[a][b{", "[a{][]", "![a]{", "\"a\"{", "'a'{",
+    "{*a*}{", "{=a=}{", "`{", "`", "``", "*", "'", "[", "]", "](", "][", ")", "<a{:b>", "<", ":a{", "[^a{]", "[^", "`a`{=b}{", "`a`{=b{", "\\{",
+    "door 12", "R-07",
+];
+
+/// What stands in a block, most of it rightly.
+const ATTRIBUTES: &[&str] = &[
+    ".a", ".b-c", "#d", "#e:f_", "g=h", "i_=1", "j=\"k\"", "l=\"m\nn\"", "o=\"\\\"\"", "p=\"}{\"", "q=\"\\\n\"", "r=\"\n\\\"", "s=\"é\"", "%t%",
+    "%u\nv%", "%", "%%", "%w{", "x", "y=", "z=\"", "=", ".", "#", "é",
+];
+
+/// Blanks between these, and one that is none.
+const BLANKS: &[&str] = &[" ", " ", " ", "\n", "\t", "\r\n", "  ", "", "\x0b", "\x0c"];
 
 /// How far a text goes: mostly short, at times to the longest run and beyond.
 fn length(r: &mut Random) -> usize {
@@ -44,7 +62,7 @@ pub fn text(r: &mut Random, out: &mut Vec<u8>) {
                 few[r.below(few.len())]
             }
             14 => {
-                out.push(TELLING[r.below(TELLING.len())]);
+                out.push(telling(r));
                 ""
             }
             _ => {
@@ -54,11 +72,85 @@ pub fn text(r: &mut Random, out: &mut Vec<u8>) {
         };
         out.extend(piece.as_bytes());
     }
-    // A bare brace stands in few sheets.
+    // A brace anywhere.
     if r.below(20) == 0 {
         let at = r.below(out.len() + 1);
         out.insert(at, b'{');
     }
+}
+
+/// A byte that some rule tells apart.
+fn telling(r: &mut Random) -> u8 {
+    match r.below(12) {
+        0 => b"{}#%.=\""[r.below(7)],
+        _ => TELLING[r.below(TELLING.len())],
+    }
+}
+
+/// An attribute block, or nearly one: some of them do not end, and in some a byte is another.
+fn block(r: &mut Random, out: &mut Vec<u8>) {
+    let start = out.len();
+    out.push(b'{');
+    out.extend(BLANKS[r.below(BLANKS.len())].as_bytes());
+    for _ in 0..r.below(5) {
+        out.extend(ATTRIBUTES[r.below(ATTRIBUTES.len())].as_bytes());
+        out.extend(BLANKS[r.below(BLANKS.len())].as_bytes());
+    }
+    if r.below(4) != 0 {
+        out.push(b'}');
+    }
+    if r.below(3) == 0 {
+        let at = start + r.below(out.len() - start);
+        out[at] = telling(r);
+    }
+}
+
+/// A text around braces: any pieces, a few over and over, or blocks between other pieces.
+pub fn braces(r: &mut Random, out: &mut Vec<u8>) {
+    out.clear();
+    let n = length(r);
+    let sort = r.below(8);
+    let few: Vec<&str> = (0..2 + r.below(5)).map(|_| BRACES[r.below(BRACES.len())]).collect();
+    while out.len() < n {
+        let piece = match sort {
+            0..=1 => BRACES[r.below(BRACES.len())],
+            2..=5 => few[r.below(few.len())],
+            _ if r.below(3) == 0 => {
+                block(r, out);
+                ""
+            }
+            6 => BRACES[r.below(BRACES.len())],
+            _ => PIECES[r.below(PIECES.len())],
+        };
+        out.extend(piece.as_bytes());
+    }
+}
+
+/// Lines with a block that is open at their ends: touching, or with bytes between them that would close or break it.
+fn open_blocks(r: &mut Random, sheet: &mut Sheet) {
+    let Sheet { text, starts, ends } = sheet;
+    text.clear();
+    starts.clear();
+    ends.clear();
+    starts.push(0);
+    let before = ["", "a", "*a*", "`a`", "[a](b", "[a][", " ", "{", "}", "\"", "`"];
+    let open = ["{", "{ ", "{.a", "{.a ", "{#a", "{a", "{a=", "{a=b", "{a=\"", "{a=\"b", "{a=\"\\", "{%", "{% a", "{%\n"];
+    let between = ["}", "\"", "\"}", "%", "%}", "\\", "> ", "a", "{", "\n", "é"];
+    let behind = ["", "}", "}", "\"}", "\"}", "%}", " }", "a}", "=b}", "a", "\"", "\\\"}", "\n", ")", "]"];
+    for _ in 0..1 + r.below(4) {
+        text.extend(before[r.below(before.len())].as_bytes());
+        text.extend(open[r.below(open.len())].as_bytes());
+        text.extend(["", "\n", "\n", " ", "\r\n"][r.below(5)].as_bytes());
+        for _ in 0..1 + r.below(2) {
+            ends.push(text.len());
+            if r.below(3) != 0 {
+                text.extend(between[r.below(between.len())].as_bytes());
+            }
+            starts.push(text.len());
+        }
+        text.extend(behind[r.below(behind.len())].as_bytes());
+    }
+    ends.push(text.len());
 }
 
 /// Lines of a text: one, one for each newline, or any, touching or with gaps, some of them empty.
@@ -216,7 +308,7 @@ impl Writer<'_> {
     }
 
     fn destination(&mut self) {
-        self.of(&["b", "u:x", "a/b.c", "b c", "*b*", "\\)", ""]);
+        self.of(&["b", "u:x", "a/b.c", "b c", "*b*", "\\)", "", "b{c", "{b"]);
         if self.r.below(3) == 0 {
             self.newline();
             self.of(&["c", "", "d e", "[x](y"]);
@@ -256,16 +348,25 @@ impl Writer<'_> {
         self.of(&["", "", "", "{=html}", "\\*"]);
     }
 
+    /// Mostly a lone one.
+    fn brace(&mut self) {
+        match self.r.below(16) {
+            0 => block(self.r, &mut self.sheet.text),
+            _ => self.of(&["{", "{door", "{R-07 left", "{ ", "x}", "{12}", "{a=\"", "{% "]),
+        }
+    }
+
     fn item(&mut self, depth: usize) {
         let (open, close) = PAIRS[self.r.below(19)];
-        match self.r.below(24) {
+        match self.r.below(25) {
             0..=6 => self.word(),
             7..=9 => self.put(" "),
             10 => self.newline(),
             11..=12 => self.verbatim(),
             13 => self.of(&["<http://a.b>", "<a@b.c>", ":bolt:", ":+1:", "[^1]", "[^note a]"]),
             14 => self.of(&["\\*", "\\ ", "\\\\", "\\a", "--", "---", "...", "......", "-----"]),
-            15..=18 if depth < 4 => self.link(depth + 1),
+            15 => self.brace(),
+            16..=19 if depth < 4 => self.link(depth + 1),
             _ if depth < 4 => self.around(open, close, depth + 1),
             _ => self.word(),
         }
@@ -344,7 +445,7 @@ fn move_edge(r: &mut Random, sheet: &mut Sheet) {
 pub fn damage(r: &mut Random, sheet: &mut Sheet) {
     for _ in 0..1 + r.below(3) {
         let n = sheet.text.len();
-        let b = if r.below(4) == 0 { r.next() as u8 } else { TELLING[r.below(TELLING.len())] };
+        let b = if r.below(4) == 0 { r.next() as u8 } else { telling(r) };
         match r.below(10) {
             0..=2 if n > 0 => sheet.text[r.below(n)] = b,
             3..=4 if n > 0 => sheet.take_out(r.below(n), 1),
@@ -357,7 +458,7 @@ pub fn damage(r: &mut Random, sheet: &mut Sheet) {
 
 /// A random sheet. Whether it is a damaged one.
 pub fn any(r: &mut Random, sheet: &mut Sheet) -> bool {
-    match r.below(128) {
+    match r.below(160) {
         0..=3 => dollars(r, sheet),
         4 => {
             backticks(r, &mut sheet.text);
@@ -369,16 +470,23 @@ pub fn any(r: &mut Random, sheet: &mut Sheet) -> bool {
         }
         13..=24 => marked_up(r, sheet),
         25..=56 => {
-            let good = r.below(4);
+            let good = r.below(8);
             match good {
-                0 => nested(r, &mut sheet.text),
+                0 | 1 => nested(r, &mut sheet.text),
+                2 => braces(r, &mut sheet.text),
+                4 => open_blocks(r, sheet),
                 _ => marked_up(r, sheet),
             }
-            if good < 2 {
+            if good < 4 {
                 cut(r, sheet);
             }
             damage(r, sheet);
             return true;
+        }
+        57..=64 => open_blocks(r, sheet),
+        65..=88 => {
+            braces(r, &mut sheet.text);
+            cut(r, sheet);
         }
         _ => {
             text(r, &mut sheet.text);

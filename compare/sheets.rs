@@ -7,7 +7,7 @@ use crate::model::Sizes;
 use crate::random::{strings, Random};
 use crate::shapes::{any, names, shapes, SHAPES};
 use crate::sheet::Sheet;
-use crate::worked::WORKED;
+use crate::worked::{Worked, BRACES, WORKED};
 use crate::written::WRITTEN;
 use crate::{limits, lookup, model};
 use std::time::Instant;
@@ -18,12 +18,35 @@ const ALPHABETS: &[&[u8]] = &[b"`$\\ \na=}{b", b"[]()!\\\na^*`", b"*_{}'\" \na-.
 /// Few bytes, for longer strings: links, verbatim, math, images, quotes.
 const FEW: &[&[u8]] = &[b"[](\na", b"` \\\na", b"`$\\\na", b"[]`!\n", b"{'\" *a", b"[]{*}a"];
 
+/// Around a brace: what stands before all strings over an alphabet, and the length of these at most on one line and on two.
+struct Braced {
+    before: &'static [&'static [u8]],
+    alphabet: &'static [u8],
+    one: usize,
+    two: usize,
+}
+
+/// Every byte that the validator tells apart; quoted values and comments, for longer strings; and a brace behind and inside of marks.
+const BRACED: &[Braced] = &[
+    Braced { before: &[b"{"], alphabet: b"{}.#%a =\n\"\\", one: 6, two: 5 },
+    Braced { before: &[b"{a=\"", b"{%"], alphabet: b"{}\"\\\n%a", one: 6, two: 5 },
+    Braced {
+        before: &[
+            b"*a*{", b"`a`{", b"[a]{", b"[a](b){", b"[a][]{", b"[a](b{", b"[a{", b"![a]{", b"\"a\"{", b"'a'{", b"{*a*}{", b"`a`{=b}{", b"`a`{=b{",
+            b"`{", b"[^a{", b"<a:{", b":a{", b"\\{", b"$`a`{", b"a\n{",
+        ],
+        alphabet: b"{}.a=\"%\n`*]):>",
+        one: 4,
+        two: 3,
+    },
+];
+
 /// After how many sheets it is said how far a run is.
 const PROGRESS: u64 = 2_000_000;
 
-/// Document 01's own sheets, against its own answers.
-fn worked(checker: &mut Checker) -> bool {
-    for w in WORKED {
+/// Sheets of the documents, against their own answers.
+fn answered(checker: &mut Checker, sheets: &[Worked], document: &str) -> bool {
+    for w in sheets {
         let sheet = w.sheet();
         let n = sheet.fed();
         checker.expect.ask(&sheet, w.reading);
@@ -38,11 +61,19 @@ fn worked(checker: &mut Checker) -> bool {
         let (events, labels) = checker.left();
         let given = events[..EVENT_NUMBERS * w.events.len()] == *w.events.as_flattened() && *labels == *w.labels;
         if called != Ok(w.answer()) || w.answer().code == code::ACCEPTED && !given {
-            checker.print(&sheet, w.reading, &sizes, &format!("document 01 has {:?}: {called:?}", w.answer()));
+            checker.print(&sheet, w.reading, &sizes, &format!("{document} has {:?}: {called:?}", w.answer()));
             return false;
         }
     }
-    println!("sheets: {} worked through in document 01", WORKED.len());
+    true
+}
+
+/// Document 01's own sheets, and those around braces by document 02.
+fn worked(checker: &mut Checker) -> bool {
+    if !(answered(checker, WORKED, "document 01") && answered(checker, BRACES, "document 02")) {
+        return false;
+    }
+    println!("sheets: {} worked through in document 01, {} around braces by document 02", WORKED.len(), BRACES.len());
     true
 }
 
@@ -122,6 +153,43 @@ fn short(checker: &mut Checker) -> bool {
     true
 }
 
+/// A sheet on one line, and on two: touching, or with one or two bytes between them. Whether all are right.
+fn cut_once(checker: &mut Checker, text: &[u8], two: bool) -> bool {
+    let n = text.len();
+    let mut sheet = Sheet::line(text);
+    if !checker.right(&sheet, 1) {
+        return false;
+    }
+    let cuts = (0..=n).flat_map(|p| (p..=n.min(p + 2)).map(move |q| (p, q)));
+    cuts.take_while(|_| two).all(|(p, q)| {
+        sheet.cut(&[(0, p), (q, n)]);
+        checker.right(&sheet, 1)
+    })
+}
+
+/// All short sheets around a brace, of one line and of two.
+fn braced(checker: &mut Checker) -> bool {
+    let started = Instant::now();
+    let all = checker.sheets;
+    for Braced { before, alphabet, one, two } in BRACED {
+        for before in *before {
+            let mut ok = true;
+            let mut text = before.to_vec();
+            strings(alphabet, *one, |src| {
+                text.truncate(before.len());
+                text.extend(src);
+                ok = cut_once(checker, &text, src.len() <= *two);
+                ok
+            });
+            if !ok {
+                return false;
+            }
+        }
+    }
+    println!("sheets: {} of one or two lines, all short strings behind a brace ({:.0?})", checker.sheets - all, started.elapsed());
+    true
+}
+
 /// Random sheets, damaged ones among them.
 fn random(checker: &mut Checker, sheets: u64, seed: u64) -> bool {
     let started = Instant::now();
@@ -158,14 +226,18 @@ fn random(checker: &mut Checker, sheets: u64, seed: u64) -> bool {
 pub fn compare(sheets: u64, seed: u64) -> Option<Checker> {
     let mut checker = Checker::new(seed);
     let c = &mut checker;
-    if !(worked(c) && written(c) && lookup::compare(seed) && limits::compare(c) && random(c, sheets, seed) && short(c)) {
+    if !(worked(c) && written(c) && lookup::compare(seed) && limits::compare(c) && random(c, sheets, seed) && short(c) && braced(c)) {
         return None;
     }
     for (reading, c) in checker.counts.iter().enumerate() {
         println!(
-            "reading {reading}: answers {}; {} lists by the laws, {} of them 16 deep, {} with math over a line's end, {} links, {} sheets with \
-             built labels, {} labels looked up",
+            "reading {reading}: answers {}; {} sheets with a lone brace read as Str, {} refused at an attribute block, {} of these behind a lone \
+             brace; {} lists by the laws, {} of them 16 deep, {} with math over a line's end, {} links, {} sheets with built labels, {} labels \
+             looked up",
             by_code(&c.answers),
+            c.lone,
+            c.blocks,
+            c.behind,
             c.lists,
             c.deep,
             c.over,

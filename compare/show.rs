@@ -45,7 +45,7 @@ pub fn print() {
 /// Why a fragment is refused. The program gives its rooms and lines itself, so that there is no other reason.
 fn reason(code: u32) -> &'static str {
     match code {
-        code::BRACE => "a bare opening brace",
+        code::BRACE => "an attribute block",
         code::LABEL_ROOM => "the labels are too long",
         code::LINKED => "a link, an image, an autolink or a footnote reference",
         _ => "not by a sheet that the program reads",

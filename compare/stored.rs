@@ -12,7 +12,7 @@ use crate::random::Random;
 use crate::rows::one_in;
 use crate::shapes::any;
 use crate::sheet::Sheet;
-use crate::worked::WORKED;
+use crate::worked::{BRACES, WORKED};
 
 /// What the program that replays them has room for.
 const TEXT: usize = 1200;
@@ -65,19 +65,22 @@ fn case(sheet: &Sheet, reading: u32, lending: &Lending, expect: &Expect) -> bool
     true
 }
 
-/// The sheets of document 01, each with enough room, and the largest that there is room for.
+/// The sheets of document 01 and those around braces, each with enough room, and the largest that there is room for.
 fn named(expect: &mut Expect) {
-    for w in WORKED {
+    for w in WORKED.iter().chain(BRACES) {
         let sheet = w.sheet();
         expect.ask(&sheet, w.reading);
-        assert!(expect.rust.events == w.events && expect.rust.labels == w.labels, "document 01 and the Rust differ");
+        let answer = expect.answer(&sheet, w.reading, &expect.need.sizes(&SURE));
+        let same = answer == w.answer() && expect.rust.events == w.events && expect.rust.labels == w.labels;
+        assert!(same, "the documents and the Rust differ on {:?}: {:?} at {:?}", sheet, expect.rust.events, expect.rust.brace);
         case(&sheet, w.reading, &SURE, expect);
     }
     let mut newlines = vec![b'\n'; TEXT];
     newlines[TEXT - 1] = b'`';
     let lines: Vec<(usize, usize)> = (0..LINES).map(|i| (2 * i, 2 * i + 2)).collect();
-    let braces = [b"[a][]".repeat(200), b"{".to_vec()].concat();
-    let large = [Sheet::line(&newlines), Sheet::line(&[b'['; TEXT]), Sheet::new(&b"*a`\n".repeat(40), &lines), Sheet::line(&braces)];
+    let block = [b"[a][]".repeat(200), b"{}".to_vec()].concat();
+    let braces = Sheet::by_newline(&[b"{%{k=\"\n".as_slice(), &b"{ \n".repeat(60)].concat());
+    let large = [Sheet::line(&newlines), Sheet::line(&[b'['; TEXT]), Sheet::new(&b"*a`\n".repeat(40), &lines), Sheet::line(&block), braces];
     for sheet in &large {
         for reading in 0..2 {
             expect.ask(sheet, reading);
@@ -101,7 +104,7 @@ fn short(r: &mut Random, longest: usize, sheet: &mut Sheet) {
 
 /// How often a sheet of its sort is taken, one in so many.
 fn taken_of(expect: &Expect) -> u64 {
-    if expect.unfit.is_some() || expect.rust.brace.is_some() {
+    if expect.unfit.is_some() {
         2
     } else {
         one_in(&expect.rust)

@@ -4,13 +4,15 @@ use crate::attr;
 use crate::events::{homed, in_labels, in_text, Home, NOWHERE};
 use crate::mivurakol::{container, kind, Event, ENTER, EXIT};
 
-/// Events, the bytes of the label room, and the first bare brace outside verbatim: where there is
-/// one, nothing more is noted.
+/// Events, the bytes of the label room, and the first brace at which an attribute block stands: where
+/// there is one, nothing more is noted.
 #[derive(Default)]
 pub struct RustAnswer {
     pub events: Vec<Event>,
     pub labels: Vec<u8>,
     pub brace: Option<usize>,
+    /// The lone braces: the bare ones outside verbatim, to that one, at which no block stands.
+    pub lone: Vec<usize>,
     /// Where the label of each link is.
     homes: Vec<Home>,
 }
@@ -21,6 +23,7 @@ impl RustAnswer {
         self.labels.clear();
         self.homes.clear();
         self.brace = None;
+        self.lone.clear();
     }
 }
 
@@ -120,7 +123,17 @@ macro_rules! reads {
 reads!(as_it_stands, inline);
 reads!(strict, strict);
 
-/// Of the lines of a text, in reading 0 or 1.
+/// Whether an attribute block stands at a brace, by document 02: a fresh validator is fed from the brace to its line's end, then the later
+/// lines whole.
+fn block(text: &str, starts: &[usize], ends: &[usize], brace: usize) -> bool {
+    let mut validator = attr::Plain::new();
+    let line = ends.partition_point(|&end| end <= brace);
+    let later = starts[line + 1..].iter().zip(&ends[line + 1..]);
+    let decided = std::iter::once((&brace, &ends[line])).chain(later).find_map(|(&start, &end)| validator.parse(&text[start..end]));
+    decided.is_some_and(|len| len > 0)
+}
+
+/// Of the lines of a text, in reading 0 or 1. Where the Rust has found a block, and where none, the rule of document 02 must say so too.
 pub fn read(text: &str, starts: &[usize], ends: &[usize], reading: u32, rust: &mut RustAnswer) {
     attr::note();
     match reading {
@@ -128,4 +141,13 @@ pub fn read(text: &str, starts: &[usize], ends: &[usize], reading: u32, rust: &m
         _ => strict(text, starts, ends, rust),
     }
     attr::forget();
+    let place = |address: &usize| address - text.as_ptr() as usize;
+    attr::asked(|asked| rust.lone.extend(asked.iter().map(place)));
+    if rust.brace.is_some() {
+        assert_eq!(rust.lone.pop(), rust.brace, "the last brace that is asked is the one at which a block stands: {text:?}");
+    }
+    let stands = |&brace: &usize| block(text, starts, ends, brace);
+    let ruled = rust.lone.is_sorted() && !rust.lone.iter().any(stands) && rust.brace.iter().all(stands);
+    let RustAnswer { brace, lone, .. } = rust;
+    assert!(ruled, "document 02 and the Rust differ: {text:?}, lines from {starts:?} to {ends:?}, a block at {brace:?}, none at {lone:?}");
 }

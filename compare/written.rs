@@ -35,6 +35,7 @@ pub const WRITTEN: &[(&str, Written)] = &[
     ("`a\nb`{=html}c", Ok("c")),
     ("*a _b `c`_*", Ok("<strong>a <em>b <code>c</code></em></strong>")),
     ("*a\nb*", Ok("<strong>a\nb</strong>")),
+    ("{door *12*{ <", Ok("{door <strong>12</strong>{ &lt;")),
     ("a \" ] [b] (c)", Ok("a \u{201d} ] [b] (c)")),
     ("é€\u{1f512}", Ok("é€\u{1f512}")),
     ("a\0b\r\n", Ok("a\0b\r\n")),

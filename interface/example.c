@@ -15,8 +15,8 @@ static uint32_t queue[MIVURAKOL_QUEUE_NUMBERS * (2 * N + 1)];
 static uint32_t openers[MIVURAKOL_OPENER_NUMBERS * N];
 static uint8_t labels[N];
 
-/* A cell for a fragment has no links. */
-static const char door[] = "*12* `R-07` < 24 V";
+/* A cell for a fragment has no links. A brace at which no attribute block stands is text. */
+static const char door[] = "*12* `R-07` < 24 V {left";
 static uint8_t out[MIVURAKOL_FRAGMENT_ROOM(sizeof door - 1)];
 
 static void print_label(const uint8_t *text, const uint32_t *e)
@@ -30,7 +30,7 @@ static void print_label(const uint8_t *text, const uint32_t *e)
 
 static int print_fragment(void)
 {
-    static const char html[] = "<strong>12</strong> <code>R-07</code> &lt; 24 V";
+    static const char html[] = "<strong>12</strong> <code>R-07</code> &lt; 24 V {left";
     const mivurakol_line line = {0, sizeof door - 1};
     mivurakol_fragment_answer f = mivurakol_fragment(
         (const uint8_t *)door, sizeof door - 1, &line, 1, 0,

@@ -99,7 +99,8 @@ extern "C" {
 #define MIVURAKOL_CODE_QUEUE_ROOM 5
 /* The opener room has fewer than N records. */
 #define MIVURAKOL_CODE_OPENER_ROOM 6
-/* A bare opening brace stands at byte `place`, outside verbatim. */
+/* An attribute block stands at byte `place`, outside verbatim, the first of them. A brace at which
+ * none stands is Str. */
 #define MIVURAKOL_CODE_BRACE 7
 /* The label room does not hold the labels. */
 #define MIVURAKOL_CODE_LABEL_ROOM 8

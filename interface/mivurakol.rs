@@ -101,7 +101,7 @@ pub mod code {
     pub const QUEUE_ROOM: u32 = 5;
     /// The opener room has fewer than N records.
     pub const OPENER_ROOM: u32 = 6;
-    /// A bare opening brace stands outside verbatim.
+    /// An attribute block stands outside verbatim. A brace at which none stands is Str.
     pub const BRACE: u32 = 7;
     /// The label room does not hold the labels.
     pub const LABEL_ROOM: u32 = 8;

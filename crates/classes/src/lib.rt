@@ -5,7 +5,7 @@ mod table;
 ghost use mathlib.Core.Path.{_≡_};
 ghost use Prim.Native.Nat.{_<_};
 ghost use lib.Dec.{eqb};
-ghost use Rattle.classes.specs.Classes.{blank, punctuation, flagged, Ruled};
+ghost use Rattle.classes.specs.Classes.{blank, alphanumeric, punctuation, flagged, Ruled};
 ghost use Rattle.classes.specs.Sets.{inSet, run};
 pub use table::classes;
 
@@ -56,6 +56,13 @@ pub fn is_punctuation(b: u8, flags: &[u8; 256]) -> bool
     ensures { λ r. ⌜ r ≡ punctuation b ⌝ }
 {
     has(b, PUNCTUATION, flags)
+}
+
+pub fn is_alphanumeric(b: u8, flags: &[u8; 256]) -> bool
+    requires { ⌜ Ruled (now flags) ⌝ }
+    ensures { λ r. ⌜ r ≡ alphanumeric b ⌝ }
+{
+    has(b, ALPHANUMERIC, flags)
 }
 
 // A byte of a set.

@@ -17,6 +17,8 @@ use Rattle.lex.specs.declared.lex.Next.{Next}
 use Rattle.lex.specs.declared.lex.Next.the-variants as next
 use Rattle.lex.specs.declared.lex.Cursor.{Cursor}
 use Rattle.lex.specs.declared.lex.Lexed.{Lexed}
+use Rattle.attr.specs.declared.attr.State.{State}
+use Rattle.attr.specs.declared.attr.State.the-variants as state
 use Rattle.scan.specs.declared.Ahead.{Ahead}
 use Rattle.scan.specs.declared.Ahead.the-variants as ahead
 use Rattle.dash.specs.declared.Dashes.{Dashes}
@@ -26,6 +28,36 @@ use Rattle.exports.specs.declared.CursorNumbers.{CursorNumbers}
 use Rattle.exports.specs.declared.Step.{Step}
 use Rattle.exports.specs.declared.Scanned.{Scanned}
 use Rattle.exports.specs.declared.Counts.{Counts}
+
+-- the states of the attribute validator in their order in the source
+unfoldable pub states : List State
+states =
+    state.Start ∷ state.Whitespace ∷ state.CommentFirst ∷ state.Comment ∷ state.CommentNewline ∷ state.ClassFirst ∷ state.Class ∷ state.IdentifierFirst ∷ state.Identifier ∷ state.Key ∷ state.ValueFirst ∷ state.Value ∷ state.ValueQuoted ∷ state.ValueEscape ∷ state.ValueNewline ∷ state.ValueContinued ∷ state.Done ∷ state.Invalid ∷ []
+
+-- the place of each in that list
+abbrev pub validatorNumber : State → ℕ
+validatorNumber state.Start = 0
+validatorNumber state.Whitespace = 1
+validatorNumber state.CommentFirst = 2
+validatorNumber state.Comment = 3
+validatorNumber state.CommentNewline = 4
+validatorNumber state.ClassFirst = 5
+validatorNumber state.Class = 6
+validatorNumber state.IdentifierFirst = 7
+validatorNumber state.Identifier = 8
+validatorNumber state.Key = 9
+validatorNumber state.ValueFirst = 10
+validatorNumber state.Value = 11
+validatorNumber state.ValueQuoted = 12
+validatorNumber state.ValueEscape = 13
+validatorNumber state.ValueNewline = 14
+validatorNumber state.ValueContinued = 15
+validatorNumber state.Done = 16
+validatorNumber state.Invalid = 17
+
+-- and back: a number that is none's is invalid
+unfoldable pub validatorState : ℕ → State
+validatorState n = elim (ltb n 18) [ true ↦ getD states n state.Start | false ↦ state.Invalid ]
 
 -- the delimiters, symbols and sequences in their order in the source
 unfoldable pub delimiters : List Delimiter

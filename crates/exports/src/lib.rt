@@ -3,6 +3,7 @@
 ghost use mathlib.Core.Path.{_≡_};
 ghost use Prim.Native.Nat.{_+_, _/_, _≤_, _<_};
 ghost use lib.ListN.{length, drop};
+ghost use Rattle.attr.specs.Attributes.{fed};
 ghost use Rattle.lex.specs.Lexer.{freshOf, peekOf, nextOf};
 ghost use Rattle.scan.specs.Scans.{autolinkOf, symbolOf, footnoteOf, rawFormatOf};
 ghost use Rattle.dash.specs.Dashes.{dashesOf, dotsOf};
@@ -12,7 +13,9 @@ ghost use Rattle.reading.specs.Walked.{Accepted};
 ghost use Rattle.inline.specs.Lines.{lines-of};
 ghost use Rattle.outcome.specs.Outcomes.{rooms-of, outcome-of};
 ghost use Rattle.exports.specs.Numbers.{delimiterNumber, symbolNumber, sequenceNumber, kindNumber, markOf, tokenOf, cursorOf, stateOf, stepOf};
-ghost use Rattle.exports.specs.Numbers.{scannedOf, dashCounts, dotCounts};
+ghost use Rattle.exports.specs.Numbers.{validatorNumber, validatorState, scannedOf, dashCounts, dotCounts};
+use attr::State;
+use attr::Validator;
 use lex::Cursor;
 use lex::Delimiter;
 use lex::Kind;
@@ -68,6 +71,28 @@ const KINDS: [Kind; 42] = [
     Kind::Seq(Sequence::Backtick),
     Kind::Seq(Sequence::Hyphen),
     Kind::Seq(Sequence::Period),
+];
+
+// The states of the attribute validator by their numbers.
+const STATES: [State; 18] = [
+    State::Start,
+    State::Whitespace,
+    State::CommentFirst,
+    State::Comment,
+    State::CommentNewline,
+    State::ClassFirst,
+    State::Class,
+    State::IdentifierFirst,
+    State::Identifier,
+    State::Key,
+    State::ValueFirst,
+    State::Value,
+    State::ValueQuoted,
+    State::ValueEscape,
+    State::ValueNewline,
+    State::ValueContinued,
+    State::Done,
+    State::Invalid,
 ];
 
 // A token: the number of its kind, and its length. 42 is the kind of no token.
@@ -170,6 +195,41 @@ fn kind_number(kind: Kind) -> u32
         Kind::Sym(s) => 29 + symbol_number(s),
         Kind::Seq(s) => 39 + sequence_number(s),
     }
+}
+
+fn validator_number(state: State) -> u32
+    ensures { λ r. ⌜ r ≡ validatorNumber state ⌝ }
+{
+    match state {
+        State::Start => 0,
+        State::Whitespace => 1,
+        State::CommentFirst => 2,
+        State::Comment => 3,
+        State::CommentNewline => 4,
+        State::ClassFirst => 5,
+        State::Class => 6,
+        State::IdentifierFirst => 7,
+        State::Identifier => 8,
+        State::Key => 9,
+        State::ValueFirst => 10,
+        State::Value => 11,
+        State::ValueQuoted => 12,
+        State::ValueEscape => 13,
+        State::ValueNewline => 14,
+        State::ValueContinued => 15,
+        State::Done => 16,
+        State::Invalid => 17,
+    }
+}
+
+fn validator_state(n: u32) -> State
+    ensures { λ r. ⌜ r ≡ validatorState n ⌝ }
+{
+    if n < 18 {
+        let state = STATES[n as usize];
+        return state;
+    }
+    State::Invalid
 }
 
 fn mark_of(next: Next) -> Mark
@@ -305,6 +365,20 @@ pub extern "C" fn mivurakol_raw_format(src: &[u8], from: usize) -> Scanned
 {
     let flags = classes::classes();
     scanned_of(scan::ahead_raw_format(src, from, &flags))
+}
+
+// The attribute validator, from a state on.
+#[no_mangle]
+pub extern "C" fn mivurakol_validate(bytes: &[u8], state: u32) -> u32
+    ensures { λ r. ⌜ r ≡ validatorNumber (fed (now (bytes .entry)) (validatorState state)) ⌝ }
+{
+    let flags = classes::classes();
+    let before = Validator {
+        state: validator_state(state),
+    };
+    let v = before.parse(bytes, &flags);
+    let behind = v.state;
+    validator_number(behind)
 }
 
 #[no_mangle]

@@ -16,7 +16,8 @@ use Rattle.reading.specs.Events.{event-numbers, largest}
 use Rattle.reading.specs.Machine.{Sheet, State}
 use Rattle.reading.specs.Draining.{drain}
 use Rattle.reading.specs.Reading.{sheet, read, end-of}
-use Rattle.reading.specs.Questions.{Rooms, Outcome, Fed, total, label-room, numbers, filled, cleared, handed-out, outcome, judged as judged-reader}
+use Rattle.reading.specs.Questions.{Rooms, Outcome, Fed, total, label-room, numbers, filled, cleared, handed-out, outcome-with, outcome}
+use Rattle.reading.specs.Questions.{judged as judged-reader}
 use Rattle.reading.specs.Walked.{Whole, events}
 use Rattle.reading.proofs.Choose.{choose, choose₂}
 use Rattle.reading.proofs.Feeding.{Rising}
@@ -66,7 +67,7 @@ by-room P refused.No f rooms o out ten eleven none =
 
 module _ (text : List ℕ) (ls : List Line) (reading : ℕ) (rooms : Rooms) where
   abbrev x : Sheet
-  x = sheet text reading (label-room (rooms .labels))
+  x = sheet text ls reading (label-room (rooms .labels))
 
   abbrev es : List Event
   es = events x ls
@@ -76,7 +77,7 @@ module _ (text : List ℕ) (ls : List Line) (reading : ℕ) (rooms : Rooms) wher
 
   -- a sheet that is read has a text that is not too large, and lines of it
   small : o .answer .code ≡ 0 → length text ≤ largest
-  unfolding outcome
+  unfolding outcome-with
   small =
       choose P (leb reading 1) _ _
       (λ a. choose P (leb (length text) largest && leb (length ls) largest) _ _ (λ b e. first (leb (length text) largest) refl b) (λ b e. absurd (omega (arith, e))))

@@ -1,4 +1,4 @@
--- What is known where a line begins: the invariant of the definition, of what the lines before it give, and rooms for all of them.
+-- What is known where a line begins and within it: the invariant of the definition, and rooms for all lines.
 use Prim.Native.Nat.{ℕ, suc, _+_, _-_, _*_, _^_, _≤_, _<_}
 use mathlib.Core.Path.{_≡_, sym, ap, _∙_, subst}
 use mathlib.Core.List.{List, [], _∷_}
@@ -6,18 +6,20 @@ use native.Mathlib.Omega.{arith}
 use lib.ListN.{length, getD, take, drop}
 use lib.Seq.{drop-cons}
 use Rattle.reading.specs.declared.Line.{Line}
-use Rattle.reading.specs.Machine.{Sheet, State, View, viewOf}
-use Rattle.reading.specs.Reading.{line as line-of, lines, views, start, end-of, sheet}
+use Rattle.reading.specs.Machine.{Sheet, State, Turn, View, viewOf}
+use Rattle.reading.specs.Reading.{steps, begun, line as line-of, lines, views, start, end-of, sheet}
 use Rattle.reading.specs.Questions.{total}
 use Rattle.reading.proofs.Spans.{Gap, Any}
 use Rattle.reading.proofs.Backticks.{Shows}
-use Rattle.reading.proofs.Braces.{links-line}
+use Rattle.reading.proofs.Braces.{links-line, links-steps}
 use Rattle.reading.proofs.Feeding as feeding
-use Rattle.reading.proofs.Feeding.{Rising, Apart, view-long, view-shows}
+use Rattle.reading.proofs.Stepping.{Held}
+use Rattle.reading.proofs.Feeding.{Rising, Apart, view-long, view-shows, begun-held}
+use Rattle.reading.proofs.Stopping.{moment-held}
 use Rattle.reading.proofs.Theorems.{rising, free, front, back, halves, behind}
 use Rattle.rooms.specs.declared.Parser.{Parser}
 use Rattle.rooms.specs.declared.Margin.{Margin}
-use Rattle.rooms.specs.Standing.{stands, viewed}
+use Rattle.rooms.specs.Standing.{turn, viewed}
 use Rattle.inline.specs.Asks.{Lined, Sheeted}
 use Rattle.inline.specs.Lines.{none}
 
@@ -35,11 +37,10 @@ links-lines x text a (l ∷ ls) r s =
     let v = viewOf text l in
     omega (arith, links-lines x text (l .end) ls (r .3) (line-of x v s), links-line x v s, view-long text l (r .1) (r .2))
 
-pub record Begins (text line : List ℕ) (m : Margin) (reading : ℕ) (p : Parser) (q o l : List ℕ) : Type 0 where
-  pub at : ℕ
+-- what is known within a line
+pub record Begins (text line : List ℕ) (m : Margin) (p : Parser) (q o l : List ℕ) : Type 0 where
   pub count : ℕ
-  pub stood : feeding.Stood Any text (sheet text reading (length l)) at count (stands p q o l)
-  pub gap : Gap Any at (m .base)
+  pub held : Held Any text (viewed m line) count 0 (turn p q o l)
   pub shows : Shows text (viewed m line)
   pub small : m .base + length line ≤ 1048576
   pub few : count + length line ≤ 1048576
@@ -47,11 +48,11 @@ pub record Begins (text line : List ℕ) (m : Margin) (reading : ℕ) (p : Parse
   pub stack : (count + length line) * 4 ≤ length o
   pub labels : p .labels ≤ length l
   pub label-room : length l < 2 ^ 32
-  pub links : p .links .0 ≤ count
+  pub links : p .links .0 + length line ≤ 4194304
 
 module _ (text : List ℕ) (reading : ℕ) (q o l : List ℕ) (ls : List Line) (w : Sheeted text ls q o l) (i : ℕ) where
   abbrev x : Sheet
-  x = sheet text reading (length l)
+  x = sheet text ls reading (length l)
 
   up : Rising text 0 ls
   up = rising text 0 ls (w .fed .inside) (w .fed .apart)
@@ -85,7 +86,7 @@ module _ (text : List ℕ) (reading : ℕ) (q o l : List ℕ) (ls : List Line) (
     unfolding Rising
     next-within = next .2
 
-    next-total : total (take i ls) + (here .end - here .start) ≤ total ls
+    pub next-total : total (take i ls) + (here .end - here .start) ≤ total ls
     unfolding total
     next-total = omega (arith, halves i ls, ap total cons)
 
@@ -93,28 +94,45 @@ module _ (text : List ℕ) (reading : ℕ) (q o l : List ℕ) (ls : List Line) (
     unfolding Apart
     next-gap = free x (end-of (take i ls) 0) (here ∷ drop (suc i) ls) next .0
 
-    pub begins : (p : Parser) → stands p q o l ≡ given → p .labels ≤ length l → (line : List ℕ) (m : Margin) → viewed m line ≡ viewOf text here
-        → Begins text line m reading p q o l
-    begins p same labels line m seen =
-        let base : m .base ≡ here .start = ap (λ (v : View). v .base) seen in
-        let long : length line ≡ here .end - here .start = ap (λ (v : View). length (v .bytes)) seen ∙ view-long text here next-ordered next-within in
+    abbrev v : View
+    v = viewOf text here
+
+    pub next-shows : Shows text v
+    next-shows = view-shows text here next-ordered next-within
+
+    -- where the line begins
+    pub line-held : Held Any text v (total (take i ls)) 0 (begun x v given)
+    line-held = begun-held Any text x v (end-of (take i ls) 0) (total (take i ls)) given next-gap before-stood
+
+    -- behind so many steps of it
+    pub begins : (k : ℕ) → k ≤ 2 * length (v .bytes) → (p : Parser) → turn p q o l ≡ steps k x v (begun x v given) → p .labels ≤ length l
+        → (line : List ℕ) (m : Margin) → viewed m line ≡ v → Begins text line m p q o l
+    begins k most p same labels line m seen =
+        let base : m .base ≡ here .start = ap (λ (w : View). w .base) seen in
+        let bytes : length line ≡ length (v .bytes) = ap (λ (w : View). length (w .bytes)) seen in
+        let long : length line ≡ here .end - here .start = bytes ∙ view-long text here next-ordered next-within in
         let few = rising-total text 0 ls (omega arith) up in
+        let held = moment-held x v text (total (take i ls)) next-shows (begun x v given) line-held k in
         record {
-          at = end-of (take i ls) 0;
           count = total (take i ls);
-          stood = subst (λ (s : State). feeding.Stood Any text x (end-of (take i ls) 0) (total (take i ls)) s) (sym same) before-stood;
-          gap = subst (λ (n : ℕ). Gap Any (end-of (take i ls) 0) n) (sym base) next-gap;
-          shows = subst (λ (v : View). Shows text v) (sym seen) (view-shows text here next-ordered next-within);
+          held = subst (λ (w : View). Held Any text w (total (take i ls)) 0 (turn p q o l)) (sym seen)
+              (subst (λ (a : Turn). Held Any text v (total (take i ls)) 0 a) (sym same) held);
+          shows = subst (λ (w : View). Shows text w) (sym seen) next-shows;
           small = omega (arith, base, long, next-ordered, next-within, w .small);
           few = omega (arith, long, next-total, few, w .small);
           room = omega (arith, long, next-total, w .room);
           stack = omega (arith, long, next-total, w .stack);
           labels = labels;
           label-room = w .label-room;
-          links = omega (arith, ap (λ (s : State). s .links .0) same, before-links);
+          links = omega (arith, ap (λ (a : Turn). a .state .links .0) same, links-steps k x v (begun x v given), before-links, most, bytes, long, next-total, few, w .small);
         }
 
 pub lined-begins : (text line : List ℕ) (m : Margin) (reading : ℕ) (p : Parser) (q o l : List ℕ) → Lined text line m reading p q o l
-    → Begins text line m reading p q o l
+    → Begins text line m p q o l
 lined-begins text line m reading p q o l w =
-    let f = w .fed in begins text reading q o l (f .all) (f .asks) (f .index) (f .some) (w .here) (f .is) p (f .same) (f .labels) line m (w .seen)
+    let a = w .amid in
+    let f = a .fed in
+    let b = f .behind in
+    begins text reading q o l (f .all) (b .asks) (f .index) (b .some) (w .here) (f .is) (a .count) (a .few) p
+    (subst (λ (s : State). turn p q o l ≡ steps (a .count) (sheet text (f .all) reading (length l)) (viewOf text (w .here)) (begun (sheet text (f .all) reading (length l)) (viewOf text (w .here)) s)) (b .same) (a .same))
+    (w .labels) line m (w .seen)

@@ -10,7 +10,7 @@ use lib.Seq.{take-suc, take-all}
 use Rattle.reading.specs.declared.Line.{Line}
 use Rattle.reading.specs.declared.Refused.{Refused}
 use Rattle.reading.specs.declared.Refused.the-variants as refused
-use Rattle.reading.specs.Machine.{Sheet, State, Turn, View, byte-before, viewOf}
+use Rattle.reading.specs.Machine.{Sheet, State, Turn, View, viewOf}
 use Rattle.reading.specs.Reading.{line as line-of, lines, read, start, end-of, views, sheet}
 use Rattle.reading.specs.Questions.{total, first-outside, first-early}
 use Rattle.reading.proofs.Braces.{Outside, lines-outside, start-outside}
@@ -19,34 +19,13 @@ use Rattle.reading.proofs.Feeding.{Rising}
 use Rattle.reading.proofs.Spans.{Any}
 use Rattle.reading.proofs.Theorems.{rising, front}
 use Rattle.rooms.specs.declared.Parser.{Parser}
-use Rattle.rooms.specs.declared.Margin.{Margin}
 use Rattle.rooms.specs.Records.{eventAt}
-use Rattle.rooms.specs.Standing.{stands, viewed, staying, Changed}
+use Rattle.rooms.specs.Standing.{stands, staying, Changed}
 use Rattle.rooms.proofs.Rows.{rows-length}
-use Rattle.inline.specs.Asks.{Lined, LineFed, StandsFor, Sheeted, Closing, ending}
+use Rattle.inline.specs.Asks.{Behind, StandsFor, Sheeted, Closing, ending}
 use Rattle.inline.specs.Lines.{none}
-use Rattle.inline.proofs.Begins.{before-stood, before-few, next-ordered, next-within}
+use Rattle.inline.proofs.Begins.{before-stood, before-few}
 use Rattle.inline.proofs.Turning.{good-opened}
-
--- a line by its margin
-module _ (text : List ℕ) (here : Line) (reading : ℕ) (p : Parser) (q o l : List ℕ) (w : LineFed text here reading p q o l) where
-  pub fed-ordered : here .start ≤ here .end
-  fed-ordered = next-ordered text reading q o l (w .all) (w .asks) (w .index) (w .some) here (w .is)
-
-  pub fed-within : here .end ≤ length text
-  fed-within = next-within text reading q o l (w .all) (w .asks) (w .index) (w .some) here (w .is)
-
-  module _ (m : Margin) (is : m ≡ record { base = here .start; before = byte-before text (here .start) }) where
-    seen : viewed m (viewOf text here .bytes) ≡ viewOf text here
-    seen = ap (λ (y : Margin). viewed y (viewOf text here .bytes)) is
-
-    pub fed-lined : Lined text (viewOf text here .bytes) m reading p q o l
-    fed-lined = record { here = here; seen = seen; fed = w }
-
-    pub fed-stands : (r : Parser) (q′ o′ l′ : List ℕ)
-        → StandsFor r q′ o′ l′ (line-of (sheet text reading (length l)) (viewed m (viewOf text here .bytes)) (stands p q o l))
-        → StandsFor r q′ o′ l′ (line-of (sheet text reading (length l)) (viewOf text here) (stands p q o l))
-    fed-stands r q′ o′ l′ = subst (λ (v : View). StandsFor r q′ o′ l′ (line-of (sheet text reading (length l)) v (stands p q o l))) seen
 
 -- one line more
 lines-more : (x : Sheet) (vs : List View) (v : View) (s : State) → lines x (vs ++ v ∷ []) s ≡ line-of x v (lines x vs s)
@@ -67,7 +46,7 @@ end-low text a (l ∷ ls) h r = end-low text (l .end) ls (r .2) (r .3)
 -- the loop's invariant, behind i lines
 pub record Head (text : List ℕ) (ls : List Line) (reading : ℕ) (q₀ o₀ l₀ q o l : List ℕ) (p : Parser) (end i : ℕ) : Type 0 where
   pub inside : i ≤ length ls
-  pub same : stands p q o l ≡ lines (sheet text reading (length l₀)) (views text (take i ls)) start
+  pub same : stands p q o l ≡ lines (sheet text ls reading (length l₀)) (views text (take i ls)) start
   pub stops : end ≡ end-of (take i ls) 0
   pub labels : p .labels ≤ length l
   pub long-q : length q ≡ length q₀
@@ -76,7 +55,7 @@ pub record Head (text : List ℕ) (ls : List Line) (reading : ℕ) (q₀ o₀ l�
 
 module _ (text : List ℕ) (ls : List Line) (reading : ℕ) (q₀ o₀ l₀ : List ℕ) (w : Sheeted text ls q₀ o₀ l₀) where
   abbrev x : Sheet
-  x = sheet text reading (length l₀)
+  x = sheet text ls reading (length l₀)
 
   pub head-first : (p : Parser) → ((q o l : List ℕ) → stands p q o l ≡ start) → p .labels ≡ 0 → Head text ls reading q₀ o₀ l₀ q₀ o₀ l₀ p 0 0
   unfolding lines end-of
@@ -93,15 +72,15 @@ module _ (text : List ℕ) (ls : List Line) (reading : ℕ) (q₀ o₀ l₀ : Li
 
   module _ (q o l : List ℕ) (p : Parser) (end i : ℕ) (h : Head text ls reading q₀ o₀ l₀ q o l p end i) where
     -- a line is left
-    module _ (some : i < length ls) (here : Line) (is : here ≡ getD ls i none) where
+    module _ (some : i < length ls) where
+      abbrev here : Line
+      here = getD ls i none
+
       -- what it asks
-      pub head-fed : LineFed text here reading p q o l
-      head-fed =
+      pub head-behind : Behind text ls i reading (stands p q o l) q o l
+      head-behind =
           record {
-            all = ls;
-            index = i;
             some = some;
-            is = is;
             asks =
                 record {
                   small = w .small;
@@ -111,28 +90,27 @@ module _ (text : List ℕ) (ls : List Line) (reading : ℕ) (q₀ o₀ l₀ : Li
                   stack = omega (arith, w .stack, h .long-o);
                   label-room = omega (arith, w .label-room, h .long-l);
                 };
-            same = h .same ∙ ap (λ (n : ℕ). lines (sheet text reading n) (views text (take i ls)) start) (sym (h .long-l));
-            labels = h .labels;
+            same = h .same ∙ ap (λ (n : ℕ). lines (sheet text ls reading n) (views text (take i ls)) start) (sym (h .long-l));
           }
 
       more : take (suc i) ls ≡ take i ls ++ here ∷ []
-      more = take-suc ls i none some ∙ ap (λ (k : Line). take i ls ++ k ∷ []) (sym is)
+      more = take-suc ls i none some
 
       -- what it gives
-      pub head-next : (r : Parser) (q′ o′ l′ : List ℕ) → StandsFor r q′ o′ l′ (line-of (sheet text reading (length l)) (viewOf text here) (stands p q o l))
-          → length q′ ≡ length q → length o′ ≡ length o → length l′ ≡ length l → Head text ls reading q₀ o₀ l₀ q′ o′ l′ r (here .end) (i + 1)
-      head-next r q′ o′ l′ st lq lo ll =
+      pub head-next : (r : Parser) (q′ o′ l′ : List ℕ) → StandsFor r q′ o′ l′ (line-of (sheet text ls reading (length l)) (viewOf text here) (stands p q o l))
+          → length q′ ≡ length q → length o′ ≡ length o → length l′ ≡ length l → (b : ℕ) → b ≡ here .end → Head text ls reading q₀ o₀ l₀ q′ o′ l′ r b (i + 1)
+      head-next r q′ o′ l′ st lq lo ll b isb =
           rw (add-one i)
           record {
             inside = omega arith;
             same =
                 st .same
-                ∙ ap (λ (n : ℕ). line-of (sheet text reading n) (viewOf text here) (stands p q o l)) (h .long-l)
+                ∙ ap (λ (n : ℕ). line-of (sheet text ls reading n) (viewOf text here) (stands p q o l)) (h .long-l)
                 ∙ ap (λ (s : State). line-of x (viewOf text here) s) (h .same)
                 ∙ sym (lines-more x (views text (take i ls)) (viewOf text here) start)
                 ∙ ap (λ (vs : List View). lines x vs start) (sym (map-append (viewOf text) (take i ls) (here ∷ [])))
                 ∙ ap (λ (ms : List Line). lines x (views text ms) start) (sym more);
-            stops = sym (ap (λ (ms : List Line). end-of ms 0) more ∙ end-more (take i ls) here 0);
+            stops = isb ∙ sym (ap (λ (ms : List Line). end-of ms 0) more ∙ end-more (take i ls) here 0);
             labels = st .labels;
             long-q = lq ∙ h .long-q;
             long-o = lo ∙ h .long-o;

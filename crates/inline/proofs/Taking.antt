@@ -23,7 +23,7 @@ use Rattle.reading.specs.declared.Inside.the-variants as inside
 use Rattle.reading.specs.Machine.{noting, byte-before, View, Sheet, State, Turn, rulesOf, no-str}
 use Rattle.reading.specs.Tokens.{role-of}
 use Rattle.reading.specs.Verbatim.{in-verbatim, ended-at}
-use Rattle.reading.specs.Reading.{outside, by-place, here-at, on-token, step, start, sheet}
+use Rattle.reading.specs.Reading.{outside, by-place, here-at, on-token, step, start, unasked}
 use Rattle.reading.proofs.Places.{HereOk, here-ok}
 use Rattle.rooms.specs.declared.Parser.{Parser}
 use Rattle.rooms.specs.declared.Margin.{Margin}
@@ -38,7 +38,7 @@ use Rattle.inline.specs.Asks.{Before, overOf, ending, Closing}
 module _ (text : List ℕ) (reading : ℕ) (line : List ℕ) (m : Margin) (p : Parser) (q o l : List ℕ) (b : Before line m p q o l) (a : Lexed)
     (isa : a ≡ nextOf line (p .cursor)) where
   abbrev x : Sheet
-  x = sheet text reading (length l)
+  x = unasked text reading (length l)
 
   abbrev v : View
   v = viewed m line

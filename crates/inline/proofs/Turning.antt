@@ -12,9 +12,9 @@ use Rattle.reading.specs.declared.Inside.{Inside}
 use Rattle.reading.specs.declared.Inside.the-variants as inside
 use Rattle.reading.specs.declared.Refused.{Refused}
 use Rattle.reading.specs.declared.Refused.the-variants as refused
-use Rattle.reading.specs.Machine.{View, Sheet, State, Turn}
+use Rattle.reading.specs.Machine.{View, Sheet, Turn}
 use Rattle.reading.specs.Verbatim.{nothing}
-use Rattle.reading.specs.Reading.{step, steps, unless, begun, line as line-of, sheet}
+use Rattle.reading.specs.Reading.{step, steps, unasked}
 use Rattle.reading.proofs.Good.{GoodBy, Ends}
 use Rattle.reading.proofs.Ends.{ends-last, ends-wide, ends-some}
 use Rattle.reading.proofs.Queue.{inner-enters}
@@ -22,7 +22,8 @@ use Rattle.reading.proofs.Named.{good-named}
 use Rattle.reading.proofs.Links.{links-step}
 use Rattle.reading.proofs.Backticks.{Shows}
 use Rattle.reading.proofs.Stepping.{Held, met}
-use Rattle.reading.proofs.Feeding.{begun-held, step-on}
+use Rattle.reading.proofs.Feeding.{step-on}
+use Rattle.reading.proofs.Stopping.{step-off}
 use Rattle.reading.proofs.Spans.{Any}
 use Rattle.reading.proofs.Theorems.{step-end, steps-still}
 use Rattle.rooms.specs.declared.Parser.{Parser}
@@ -30,9 +31,9 @@ use Rattle.rooms.specs.declared.Margin.{Margin}
 use Rattle.rooms.specs.Records.{eventAt, events, openerAt, opens}
 use Rattle.rooms.specs.Standing.{stands, turn, viewed, Stepped}
 use Rattle.rooms.proofs.Rows.{rows-length, rows-at, stack-length}
-use Rattle.verbatim.specs.Opened.{OpenedBy, Begun}
+use Rattle.verbatim.specs.Opened.{OpenedBy}
 use Rattle.outside.specs.Outside.{Ended}
-use Rattle.inline.specs.Asks.{Before, StandsFor, overOf}
+use Rattle.inline.specs.Asks.{Before, overOf}
 use Rattle.inline.proofs.Begins.{Begins}
 
 -- the test of a line's end, taken apart
@@ -47,12 +48,11 @@ over-still n pos (refused.At p) e is = absurd (met p is)
 over-still n pos refused.No e is = leb-true n pos e
 
 -- one step, and none
-step-off : (x : Sheet) (v : View) (a : Turn) → a .state .refused ≡ refused.No → (k : ℕ) → 0 < k → steps k x v a ≡ steps (k - 1) x v (step x v a)
-unfolding steps unless
-step-off x v a e zero h = absurd (omega arith)
-step-off x v a e (suc k) h =
+one-step : (x : Sheet) (v : View) (a : Turn) → a .state .refused ≡ refused.No → (k : ℕ) → 0 < k → steps k x v a ≡ steps (k - 1) x v (step x v a)
+one-step x v a e zero h = absurd (omega arith)
+one-step x v a e (suc k) h =
     let z : suc k - 1 ≡ k = omega arith in
-    ap (λ (r : Refused). unless r a (steps k x v (step x v a))) e ∙ rw z
+    step-off x v k a e ∙ rw z
 
 no-steps : (x : Sheet) (v : View) (a : Turn) (k : ℕ) → k ≤ 0 → a ≡ steps k x v a
 unfolding steps
@@ -105,8 +105,8 @@ module _ (text : List ℕ) (at n : ℕ) (p : Parser) (q o l : List ℕ) where
 pub record Turns (text line : List ℕ) (m : Margin) (reading : ℕ) (q₀ o₀ l₀ : List ℕ) (out₀ : Parser) (q o l : List ℕ) (out : Parser) (left : ℕ) : Type 0 where
   pub count : ℕ
   pub held : Held Any text (viewed m line) count 0 (turn out q o l)
-  pub same : steps left (sheet text reading (length l₀)) (viewed m line) (turn out q o l)
-      ≡ steps (length line) (sheet text reading (length l₀)) (viewed m line) (turn out₀ q₀ o₀ l₀)
+  pub same : steps left (unasked text reading (length l₀)) (viewed m line) (turn out q o l)
+      ≡ steps (length line) (unasked text reading (length l₀)) (viewed m line) (turn out₀ q₀ o₀ l₀)
   pub shows : Shows text (viewed m line)
   pub small : m .base + length line ≤ 1048576
   pub few : count + length line ≤ 1048576
@@ -114,34 +114,33 @@ pub record Turns (text line : List ℕ) (m : Margin) (reading : ℕ) (q₀ o₀ 
   pub stack : (count + length line) * 4 ≤ length o
   pub labels : out .labels ≤ length l
   pub label-room : length l < 2 ^ 32
-  pub links : out .links .0 + left ≤ count + length line
+  pub links : out .links .0 + left ≤ 4194304
   pub long-q : length q ≡ length q₀
   pub long-o : length o ≡ length o₀
   pub long-l : length l ≡ length l₀
 
 module _ (text line : List ℕ) (m : Margin) (reading : ℕ) (q₀ o₀ l₀ : List ℕ) where
   abbrev x : Sheet
-  x = sheet text reading (length l₀)
+  x = unasked text reading (length l₀)
 
   abbrev v : View
   v = viewed m line
 
-  -- a line that has begun
-  pub turns-first : (p r : Parser) → Begins text line m reading p q₀ o₀ l₀ → Begun reading p r → Turns text line m reading q₀ o₀ l₀ r q₀ o₀ l₀ r (length line)
-  turns-first p r w b =
-      let is = b .same text q₀ o₀ l₀ (length l₀) v in
+  -- at first
+  pub turns-first : (p : Parser) → Begins text line m p q₀ o₀ l₀ → Turns text line m reading q₀ o₀ l₀ p q₀ o₀ l₀ p (length line)
+  turns-first p w =
       record {
         count = w .count;
-        held = subst (λ (a : Turn). Held Any text v (w .count) 0 a) (sym is) (begun-held Any text x v (w .at) (w .count) (stands p q₀ o₀ l₀) (w .gap) (w .stood));
+        held = w .held;
         same = refl;
         shows = w .shows;
         small = w .small;
         few = w .few;
         room = w .room;
         stack = w .stack;
-        labels = omega (arith, b .labels, w .labels);
+        labels = w .labels;
         label-room = w .label-room;
-        links = omega (arith, ap (λ (a : Turn). a .state .links .0) is, w .links);
+        links = w .links;
         long-q = refl;
         long-o = refl;
         long-l = refl;
@@ -167,12 +166,12 @@ module _ (text line : List ℕ) (m : Margin) (reading : ℕ) (q₀ o₀ l₀ : L
           ended = λ is. good-ended text _ _ out q o l (out .inside) is (f .good);
           labels = t .labels;
           label-room = t .label-room;
-          links = omega (arith, t .links, t .few, some);
+          links = omega (arith, t .links, some);
         }
 
     -- what it gives
     pub turns-next : 0 < left → overOf (length line) (out .cursor .pos) (out .refused) ≡ false → (r : Parser) (q′ o′ l′ : List ℕ)
-        → Stepped out q o l r q′ o′ l′ (λ s. step (sheet text reading (length l)) v (record { cursor = out .cursor; state = s }))
+        → Stepped out q o l r q′ o′ l′ (λ s. step (unasked text reading (length l)) v (record { cursor = out .cursor; state = s }))
         → length q′ ≡ length q → length o′ ≡ length o → length l′ ≡ length l
         → Turns text line m reading q₀ o₀ l₀ out₀ q′ o′ l′ r (left - 1)
     turns-next some e r q′ o′ l′ st lq lo ll =
@@ -197,24 +196,22 @@ module _ (text line : List ℕ) (m : Margin) (reading : ℕ) (q₀ o₀ l₀ : L
         none = on-still (length line) (out .cursor .pos) (out .refused) e .0
 
         is : turn r q′ o′ l′ ≡ step x v (turn out q o l)
-        is = subst (λ (n : ℕ). turn r q′ o′ l′ ≡ step (sheet text reading n) v (turn out q o l)) (t .long-l) (st .same)
+        is = subst (λ (n : ℕ). turn r q′ o′ l′ ≡ step (unasked text reading n) v (turn out q o l)) (t .long-l) (st .same)
 
         one : (k : ℕ) → 0 < k → steps k x v (turn out q o l) ≡ steps (k - 1) x v (step x v (turn out q o l))
-        one k h = step-off x v (turn out q o l) none k h
+        one k h = one-step x v (turn out q o l) none k h
 
-    -- the line is at its end, or the sheet is refused
-    module _ (s : State) (is₀ : turn out₀ q₀ o₀ l₀ ≡ begun x v s) where
-      all : turn out q o l ≡ steps left x v (turn out q o l) → StandsFor out q o l (line-of x v s)
-      all e =
-          record {
-            same = ap (λ (a : Turn). a .state) (e ∙ t .same ∙ ap (λ (a : Turn). steps (length line) x v a) is₀);
-            labels = t .labels;
-          }
+    -- the line is at its end, or a brace is met
+    abbrev Whole : Type 0
+    Whole = Stepped out₀ q₀ o₀ l₀ out q o l (λ s. steps (length line) x v (record { cursor = out₀ .cursor; state = s }))
 
-      pub turns-over : overOf (length line) (out .cursor .pos) (out .refused) ≡ true → StandsFor out q o l (line-of x v s)
-      turns-over e =
-          all (sym (steps-still x left v (turn out q o l)
-          (λ z. step-end x v (turn out q o l) (t .held .sound) (over-still (length line) (out .cursor .pos) (out .refused) e z))))
+    all : turn out q o l ≡ steps left x v (turn out q o l) → Whole
+    all e = record { same = e ∙ t .same; labels = t .labels }
 
-      pub turns-last : left ≤ 0 → StandsFor out q o l (line-of x v s)
-      turns-last h = all (no-steps x v (turn out q o l) left h)
+    pub turns-over : overOf (length line) (out .cursor .pos) (out .refused) ≡ true → Whole
+    turns-over e =
+        all (sym (steps-still x left v (turn out q o l)
+        (λ z. step-end x v (turn out q o l) (t .held .sound) (over-still (length line) (out .cursor .pos) (out .refused) e z))))
+
+    pub turns-last : left ≤ 0 → Whole
+    turns-last h = all (no-steps x v (turn out q o l) left h)

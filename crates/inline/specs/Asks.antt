@@ -10,16 +10,17 @@ use Rattle.reading.specs.declared.Inside.the-variants as inside
 use Rattle.reading.specs.declared.Refused.{Refused}
 use Rattle.reading.specs.declared.Refused.the-variants as refused
 use Rattle.reading.specs.declared.Line.{Line}
+use Rattle.reading.specs.declared.Place.{Place}
 use Rattle.reading.specs.Events.{queue-numbers, opener-numbers, largest}
-use Rattle.reading.specs.Machine.{State, viewOf}
+use Rattle.reading.specs.Machine.{State, Turn, viewOf}
 use Rattle.reading.specs.Verbatim.{ended-at}
-use Rattle.reading.specs.Reading.{sheet, lines, views, start}
+use Rattle.reading.specs.Reading.{sheet, steps, begun, lines, views, start}
 use Rattle.reading.specs.Naming.{Named}
 use Rattle.reading.specs.Questions.{total, Fed}
 use Rattle.rooms.specs.declared.Parser.{Parser}
 use Rattle.rooms.specs.declared.Margin.{Margin}
 use Rattle.rooms.specs.Records.{opens}
-use Rattle.rooms.specs.Standing.{stands, viewed}
+use Rattle.rooms.specs.Standing.{stands, turn, viewed, Room}
 use Rattle.verbatim.specs.Opened.{OpenedBy}
 use Rattle.outside.specs.Outside.{Ended}
 use Rattle.inline.specs.Lines.{none}
@@ -53,21 +54,51 @@ pub record Sheeted (text : List ℕ) (ls : List Line) (q o l : List ℕ) : Type 
   pub stack : total ls * opener-numbers ≤ length o
   pub label-room : length l < 2 ^ 32
 
--- at a line of the text: it is the next line of such a sheet, and the parser stands for what the lines before it give
-pub record LineFed (text : List ℕ) (here : Line) (reading : ℕ) (p : Parser) (q o l : List ℕ) : Type 0 where
+-- before the i-th line of such a sheet: a state is what the lines before it give
+pub record Behind (text : List ℕ) (all : List Line) (i reading : ℕ) (s : State) (q o l : List ℕ) : Type 0 where
+  pub some : i < length all
+  pub asks : Sheeted text all q o l
+  pub same : s ≡ lines (sheet text all reading (length l)) (views text (take i all)) start
+
+-- the same of a line of the text
+pub record LineFed (text : List ℕ) (here : Line) (reading : ℕ) (s : State) (q o l : List ℕ) : Type 0 where
   pub all : List Line
   pub index : ℕ
-  pub some : index < length all
   pub is : here ≡ getD all index none
-  pub asks : Sheeted text all q o l
-  pub same : stands p q o l ≡ lines (sheet text reading (length l)) (views text (take index all)) start
-  pub labels : p .labels ≤ length l
+  pub behind : Behind text all index reading s q o l
 
--- the same, where its bytes are cut out
+-- within that line: behind so many steps of it
+pub record Amid (text : List ℕ) (here : Line) (reading : ℕ) (a : Turn) (q o l : List ℕ) : Type 0 where
+  pub s : State
+  pub fed : LineFed text here reading s q o l
+  pub count : ℕ
+  pub few : count ≤ 2 * length (viewOf text here .bytes)
+  pub same : let x = sheet text (fed .all) reading (length l) in let v = viewOf text here in a ≡ steps count x v (begun x v s)
+
+-- where its bytes are cut out
 pub record Lined (text line : List ℕ) (m : Margin) (reading : ℕ) (p : Parser) (q o l : List ℕ) : Type 0 where
   pub here : Line
   pub seen : viewed m line ≡ viewOf text here
-  pub fed : LineFed text here reading p q o l
+  pub amid : Amid text here reading (turn p q o l) q o l
+  pub labels : p .labels ≤ length l
+
+-- stopped at a brace of a line of the text, with room for one event
+pub record BraceAt (text : List ℕ) (here : Line) (at : Place) (p : Parser) (q : List ℕ) : Type 0 where
+  pub ordered : here .start ≤ here .end
+  pub within : here .end ≤ length text
+  pub small : here .end ≤ largest
+  pub low : here .start ≤ at .0
+  pub short : at .0 - here .start < p .cursor .pos
+  pub far : p .cursor .pos ≤ here .end - here .start
+  pub room : Room 1 p q
+
+-- a place of the i-th line
+pub record Within (text : List ℕ) (all : List Line) (i at : ℕ) : Type 0 where
+  pub listed : length all ≤ largest
+  pub fed : Fed text all
+  pub some : i < length all
+  pub low : getD all i none .start ≤ at
+  pub high : at ≤ getD all i none .end
 
 -- the line is at its end, or the sheet is refused
 unfoldable pub overOf : ℕ → ℕ → Refused → Bool

@@ -14,18 +14,19 @@ use Rattle.reading.specs.declared.Place.{Place}
 use Rattle.reading.specs.declared.Role.{Role}
 use Rattle.reading.specs.declared.Role.the-variants as roles
 use Rattle.reading.specs.Events.{place, str, longest-run}
-use Rattle.reading.specs.Machine.{View, Sheet, State, Turn, Here, puts, no-str}
+use Rattle.reading.specs.Machine.{View, Rules, Sheet, State, Turn, Here, puts, no-str}
 use Rattle.reading.specs.Tokens.{plain}
 use Rattle.reading.specs.Atoms.{dots, dashes}
 use Rattle.reading.specs.Verbatim.{taken, opens-verbatim}
 use Rattle.reading.specs.Containers.{container}
-use Rattle.reading.specs.Reading.{outside}
+use Rattle.reading.specs.Reading.{braced, outside}
 use Rattle.rooms.specs.declared.Parser.{Parser}
 use Rattle.rooms.specs.declared.Margin.{Margin}
 use Rattle.rooms.specs.declared.Span.{Span}
 use Rattle.rooms.specs.Standing.{viewed, here, staying, refusing, Changed, Stepped}
 use Rattle.rooms.proofs.Changing.{changed-stepped}
 use Rattle.verbatim.specs.Opened.{Dollars}
+use Rattle.links.specs.Linked.{sheetOf}
 use Rattle.containers.specs.Ready.{Ready}
 use Rattle.outside.specs.Outside.{Ended, TokenReady}
 
@@ -89,12 +90,12 @@ pub as-other : (x : Sheet) (v : View) (h : Here) (p : Parser) (q o l : List ℕ)
 unfolding outside
 as-other x v h p q o l r q′ o′ l′ y k e s = subst (λ (w : Role). Stepped p q o l r q′ o′ l′ (outside x v h w)) (sym e) s
 
--- a bare brace
-pub as-brace : (x : Sheet) (m : Margin) (line : List ℕ) (h : Span) (p : Parser) (q o l : List ℕ) (r : Parser) → p .labels ≤ length l
+-- a brace, where none has been asked
+pub as-brace : (rules : Rules) (text : List ℕ) (m : Margin) (line : List ℕ) (h : Span) (p : Parser) (q o l : List ℕ) (r : Parser) → p .labels ≤ length l
     → (at : Place) → at ≡ place (m .base + h .from) → r ≡ refusing p at → (y : Role) → y ≡ roles.Brace
-    → Stepped p q o l r q o l (outside x (viewed m line) (here h p) y)
-unfolding outside
-as-brace x m line h p q o l r room at isat is y e =
-    subst (λ (w : Role). Stepped p q o l r q o l (outside x (viewed m line) (here h p) w)) (sym e)
-    (subst (λ (w : Parser). Stepped p q o l w q o l (outside x (viewed m line) (here h p) roles.Brace)) (sym (is ∙ ap (λ (b : Place). refusing p b) isat))
+    → Stepped p q o l r q o l (outside (sheetOf rules text l) (viewed m line) (here h p) y)
+unfolding outside braced
+as-brace rules text m line h p q o l r room at isat is y e =
+    subst (λ (w : Role). Stepped p q o l r q o l (outside (sheetOf rules text l) (viewed m line) (here h p) w)) (sym e)
+    (subst (λ (w : Parser). Stepped p q o l w q o l (outside (sheetOf rules text l) (viewed m line) (here h p) roles.Brace)) (sym (is ∙ ap (λ (b : Place). refusing p b) isat))
     record { same = refl; labels = room })

@@ -1,4 +1,4 @@
-// A token outside verbatim, in the order of the source's `parse_event`: backticks, a bare brace, the scans ahead, containers, dots and dashes. Only what
+// A token outside verbatim, in the order of the source's `parse_event`: backticks, a brace, the scans ahead, containers, dots and dashes. Only what
 // may end a link touches the label room; all else leaves it, whatever sheet the token is of, and is lifted in `outside`.
 ghost use mathlib.Core.List.{List};
 ghost use Prim.Native.Nat.{ℕ};

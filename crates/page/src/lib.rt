@@ -33,7 +33,7 @@ fn say(code: u32) {
             b"a link, an image, an autolink or a footnote reference begins there, and a fragment has none of them\n",
         );
     } else if code == code::BRACE {
-        io::write_all(2, b"an opening brace stands there outside verbatim\n");
+        io::write_all(2, b"an attribute block stands there outside verbatim\n");
     } else if code == code::LABEL_ROOM {
         io::write_all(
             2,

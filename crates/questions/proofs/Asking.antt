@@ -10,7 +10,7 @@ use borrow.Author.Tests.{leb-true, lt-ltb, le-ltb, le-leb, lt-leb, eq-eqb, ne-eq
 use lib.Dec.{leb, ltb}
 use lib.ListN.{length}
 use Rattle.reading.specs.declared.Line.{Line}
-use Rattle.reading.specs.Questions.{refusal, Rooms, Fed, total, first-outside, first-early, outcome}
+use Rattle.reading.specs.Questions.{refusal, Rooms, Fed, total, first-outside, first-early, outcome-with, outcome}
 use Rattle.reading.specs.declared.Answer.{Answer}
 use Rattle.reading.proofs.Feeding.{Rising}
 use Rattle.reading.proofs.Theorems.{rising}
@@ -207,16 +207,16 @@ module _ (text : List ℕ) (ls : List Line) (reading q o : ℕ) where
 -- what comes of them is the outcome
 pub outcome-asked : (text : List ℕ) (ls : List Line) (reading : ℕ) (rooms : Rooms)
     → outcome text ls reading rooms ≡ concluded text ls reading rooms (askedOf text ls reading (length (rooms .queue)) (length (rooms .openers)))
-unfolding outcome concluded askedOf limit checkedLines askedLines room-code
+unfolding outcome-with concluded askedOf limit checkedLines askedLines room-code
 outcome-asked text ls reading rooms =
     by-tests text ls reading (length (rooms .queue)) (length (rooms .openers)) _
-    (λ e. rw (e, outcome, askedOf, limit, concluded) (rw (e, limit)))
-    (λ e f. rw (e, f, outcome, askedOf, limit, concluded) (rw (e, f, limit)))
-    (λ e f g. rw (e, f, g, outcome, askedOf, limit, checkedLines, askedLines, concluded))
-    (λ e f g h. rw (e, f, g, h, outcome, askedOf, limit, checkedLines, askedLines, concluded))
-    (λ e f g h k. rw (e, f, g, h, k, outcome, askedOf, limit, checkedLines, askedLines, room-code, concluded) (rw (k, room-code)))
-    (λ e f g h k m. rw (e, f, g, h, k, m, outcome, askedOf, limit, checkedLines, askedLines, room-code, concluded) (rw (k, m, room-code)))
-    (λ e f g h k m. rw (e, f, g, h, k, m, outcome, askedOf, limit, checkedLines, askedLines, room-code, concluded))
+    (λ e. rw (e, outcome-with, askedOf, limit, concluded) (rw (e, limit)))
+    (λ e f. rw (e, f, outcome-with, askedOf, limit, concluded) (rw (e, f, limit)))
+    (λ e f g. rw (e, f, g, outcome-with, askedOf, limit, checkedLines, askedLines, concluded))
+    (λ e f g h. rw (e, f, g, h, outcome-with, askedOf, limit, checkedLines, askedLines, concluded))
+    (λ e f g h k. rw (e, f, g, h, k, outcome-with, askedOf, limit, checkedLines, askedLines, room-code, concluded) (rw (k, room-code)))
+    (λ e f g h k m. rw (e, f, g, h, k, m, outcome-with, askedOf, limit, checkedLines, askedLines, room-code, concluded) (rw (k, m, room-code)))
+    (λ e f g h k m. rw (e, f, g, h, k, m, outcome-with, askedOf, limit, checkedLines, askedLines, room-code, concluded))
 
 -- and a sheet that passes them has what the parser asks
 pub asked-passed : (text : List ℕ) (ls : List Line) (reading : ℕ) (qs os : List ℕ) → asked.Fed ≡ askedOf text ls reading (length qs) (length os)

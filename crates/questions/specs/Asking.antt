@@ -51,7 +51,7 @@ askedOf text ls reading q o =
 unfoldable pub concluded : List ℕ → List Line → ℕ → Rooms → Asked → Outcome
 concluded text ls reading rooms (asked.Refused a) = record { answer = a; rooms = rooms }
 concluded text ls reading rooms asked.Fed =
-    let s = read (sheet text reading (label-room (rooms .labels))) ls in
+    let s = read (sheet text ls reading (label-room (rooms .labels))) ls in
     judged (s .refused) (s .fits) s rooms
 
 -- a sheet that passes them

@@ -101,7 +101,7 @@ module _ (text : List ℕ) (ls : List Line) (reading : ℕ) where
         sym (outcome-asked text ls reading (rooms-of e q o l) ∙ ap (λ (z : Asked). concluded text ls reading (rooms-of e q o l) z) (sym h ∙ k))
 
     -- and what comes of a sheet that is read
-    pub judged-all : (p : Parser) (q' o' l' : List ℕ) → a ≡ asked.Fed → StandsFor p q' o' l' (read (sheet text reading (label-room l)) ls)
+    pub judged-all : (p : Parser) (q' o' l' : List ℕ) → a ≡ asked.Fed → StandsFor p q' o' l' (read (sheet text ls reading (label-room l)) ls)
         → length q' ≡ length q → length o' ≡ length o → length l' ≡ length l → (x : Outcome)
         → x ≡ judged (p .refused) (p .fits) (stands p q' o' l') (rooms-of e q' o' l') → x ≡ outcome text ls reading (rooms-of e q o l)
     unfolding concluded

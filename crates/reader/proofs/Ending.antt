@@ -137,13 +137,13 @@ module _ (text : List ℕ) (ls : List Line) (reading : ℕ) (q o l : List ℕ) (
       }
 
   -- what stands in it stands in the room lent
-  pub stood : (p : Parser) (q' o' l' l'' : List ℕ) → StandsFor p q' o' l' (read (sheet text reading (length (take n l))) ls)
+  pub stood : (p : Parser) (q' o' l' l'' : List ℕ) → StandsFor p q' o' l' (read (sheet text ls reading (length (take n l))) ls)
       → length l' ≡ length (take n l) → l'' ≡ l' ++ drop n l
-      → StandsFor p q' o' l'' (read (sheet text reading (label-room l)) ls) × (p .labels < 2 ^ 32)
+      → StandsFor p q' o' l'' (read (sheet text ls reading (label-room l)) ls) × (p .labels < 2 ^ 32)
   stood p q' o' l' l'' s k e =
       let t : take (p .labels) l'' ≡ take (p .labels) l' = ap (λ (z : List ℕ). take (p .labels) z) e ∙ take-append-le (p .labels) l' (drop n l) (s .labels) in (
         record {
-          same = rw t (s .same) ∙ ap (λ (m : ℕ). read (sheet text reading m) ls) (long ∙ counts);
+          same = rw t (s .same) ∙ ap (λ (m : ℕ). read (sheet text ls reading m) ls) (long ∙ counts);
           labels = omega (arith, s .labels, ap (λ (z : List ℕ). length z) e, length-append l' (drop n l));
         },
         omega (arith, s .labels, k, long, within .1),
@@ -151,18 +151,18 @@ module _ (text : List ℕ) (ls : List Line) (reading : ℕ) (q o l : List ℕ) (
 
 -- a parser that stands for the reading of lines that passed has its counts in its rooms
 pub parsed : (text : List ℕ) (ls : List Line) (reading : ℕ) (q o l : List ℕ) → Passed text ls q o → (p : Parser) (q' o' l' : List ℕ)
-    → StandsFor p q' o' l' (read (sheet text reading (label-room l)) ls) → p .labels < 2 ^ 32 → length q' ≡ length q
+    → StandsFor p q' o' l' (read (sheet text ls reading (label-room l)) ls) → p .labels < 2 ^ 32 → length q' ≡ length q
     → Parsed p q' l'
 parsed text ls reading q o l w p q' o' l' s b k =
-    let n : p .events ≡ length (read (sheet text reading (label-room l)) ls .queue) =
+    let n : p .events ≡ length (read (sheet text ls reading (label-room l)) ls .queue) =
     sym (rows-length eventAt (p .events) q') ∙ ap (λ (z : State). length (z .queue)) (s .same) in
     let t : total ls ≤ length text = omega (arith, rising-total text 0 ls (omega arith) (rising text 0 ls (w .fed .inside) (w .fed .apart))) in
     record {
-      queued = omega (arith, n, end-room (sheet text reading (label-room l)) ls (w .fed) .0, w .room, k);
+      queued = omega (arith, n, end-room (sheet text ls reading (label-room l)) ls (w .fed) .0, w .room, k);
       few =
           λ r.
-          let m = room (sheet text reading (label-room l)) ls (w .fed) (sym (ap (λ (z : State). z .refused) (s .same)) ∙ r) in
-          let d : length (drain (events (p .events) q')) ≡ length (drain (read (sheet text reading (label-room l)) ls .queue)) = ap (λ (z : State). length (drain (z .queue))) (s .same) in
+          let m = room (sheet text ls reading (label-room l)) ls (w .fed) (sym (ap (λ (z : State). z .refused) (s .same)) ∙ r) in
+          let d : length (drain (events (p .events) q')) ≡ length (drain (read (sheet text ls reading (label-room l)) ls .queue)) = ap (λ (z : State). length (drain (z .queue))) (s .same) in
           omega (arith, d, m, t, w .small);
       labels = s .labels;
       bytes = b;

@@ -26,7 +26,7 @@ unfoldable pub Counted : Drained → ℕ → List ℕ → List ℕ → Type 0
 Counted (drained.All count) bytes e l = (count * event-numbers ≤ length e) × (count < 2 ^ 32) × (bytes ≤ length l) × (bytes < 2 ^ 32)
 Counted drained.Full bytes e l = Unit {0}
 
--- whether a bare opening brace was met outside verbatim, and where the first stands
+-- whether an attribute block stands outside verbatim, and where the first does
 unfoldable pub braceOf : Refused → Brace
 braceOf (refused.At p) = record { met = true; at = p .0 }
 braceOf refused.No = record { met = false; at = 0 }

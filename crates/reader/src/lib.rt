@@ -22,7 +22,7 @@ use reading::Refused;
 use reading::code;
 use rooms::Parser;
 
-// Whether a bare opening brace was met outside verbatim, and where the first stands.
+// Whether an attribute block stands outside verbatim, and where the first does.
 struct Brace {
     met: bool,
     at: u32,
@@ -49,8 +49,8 @@ fn parse_lines(
     labels: &mut [u8],
 ) -> Parser
     requires { ⌜ Passed (now text) (lines-of (now starts) (now ends)) (now queue) (now openers) ⌝ }
-    ensures { λ r. ⌜ StandsFor r (now (queue .exit)) (now (openers .exit)) (now (labels .exit)) (read-of (sheet (now (text .entry)) reading
-        (label-room (now (labels .entry)))) (lines-of (now (starts .entry)) (now (ends .entry)))) ⌝ }
+    ensures { λ r. ⌜ StandsFor r (now (queue .exit)) (now (openers .exit)) (now (labels .exit)) (read-of (sheet (now (text .entry)) (lines-of (now
+        (starts .entry)) (now (ends .entry))) reading (label-room (now (labels .entry)))) (lines-of (now (starts .entry)) (now (ends .entry)))) ⌝ }
     ensures { λ r. ⌜ r .labels < 2 ^ 32 ⌝ }
 {
     let room = counted(labels.len());
@@ -104,7 +104,7 @@ fn hand_out(
     conclude(drained, bytes, events, queue, openers, labels)
 }
 
-// The first bare opening brace outside verbatim, as numbers.
+// The first attribute block outside verbatim, as numbers.
 fn brace_of(refused: Refused) -> Brace
     ensures { λ r. ⌜ r ≡ braceOf refused ⌝ }
 {
@@ -117,7 +117,7 @@ fn brace_of(refused: Refused) -> Brace
     }
 }
 
-// 7: is every bare opening brace inside verbatim? 8: does the label room hold all the labels built?
+// 7: does no attribute block stand outside verbatim? 8: does the label room hold all the labels built?
 fn last_code(brace: bool, fits: bool) -> u32
     ensures { λ r. ⌜ r ≡ codeOf brace fits ⌝ }
 {

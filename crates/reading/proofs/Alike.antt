@@ -24,6 +24,7 @@ use Rattle.reading.specs.Tokens.{role-of}
 use Rattle.reading.specs.Verbatim.{ended-at}
 use Rattle.reading.specs.Labels.{Label, here, built, Labelled, label-home}
 use Rattle.reading.specs.Containers.{closes-link, close-as, container}
+use Rattle.reading.specs.Blocks.{block-at}
 use Rattle.reading.specs.Reading.{by-place, here-at, on-token, unless, steps, begun, lines, start, end-of, views, read, sheet}
 use Rattle.reading.specs.Dropped.{Content, no-content, step-drops, step-content, steps-drop, steps-content, lines-drop, dropped}
 use Rattle.reading.proofs.Ruling.{in-kept, ruled}
@@ -85,10 +86,10 @@ either-ran a c refused.No p q k = k
 abbrev Lines : Type 0
 Lines = State × List Line
 
-module _ (rules : Rules) (text : List ℕ) where
+module _ (rules : Rules) (text : List ℕ) (block : ℕ → Bool) where
   -- the sheet, with a label room of so many bytes
   abbrev with-room : ℕ → Sheet
-  with-room m = record { rules = rules; text = text; room = m }
+  with-room m = record { rules = rules; text = text; room = m; block = block }
 
   module _ (m n : ℕ) (v : View) where
     abbrev x : Sheet
@@ -104,7 +105,7 @@ module _ (rules : Rules) (text : List ℕ) where
         (λ h o t os e f.
         let u = label-home-alike m n (s .links) (s .labels) (s .fits) _ e f in
         (u .0, ap (λ (l : Labelled). record { cursor = peekOf (v .bytes) (h .cursor) .cursor; state = closes-link (t .container) l v h o (with-openers os s) }) (u .1)))
-        (λ h e f. (e, refl)) (λ h e f. (e, refl)) h (role-of (t .kind))
+        (λ h e f. (e, refl)) (λ p. refl) (λ h e f. (e, refl)) h (role-of (t .kind))
     by-alike s h t (inside.Verbatim w) = same s _ (ap (λ z. z .2) (in-kept v h s rules t w))
 
     on-alike : (a : Turn) (t : Next) (c : Cursor) → Turned (a .state) (on-token x v a t c) (on-token y v a t c)
@@ -148,9 +149,9 @@ module _ (rules : Rules) (text : List ℕ) where
     dropped-alike = ap (λ (l : Lines). l .1) all-alike
 
 -- so the events of a sheet are one list, and what it drops is fixed, whatever label room holds its labels
-pub one-list : (text : List ℕ) (reading m n : ℕ) (ls : List Line) → read (sheet text reading m) ls .fits ≡ true → read (sheet text reading n) ls .fits ≡ true
-    → (events (sheet text reading m) ls ≡ events (sheet text reading n) ls) × (dropped (sheet text reading m) ls ≡ dropped (sheet text reading n) ls)
+pub one-list : (text : List ℕ) (reading m n : ℕ) (ls : List Line) → read (sheet text ls reading m) ls .fits ≡ true → read (sheet text ls reading n) ls .fits ≡ true
+    → (events (sheet text ls reading m) ls ≡ events (sheet text ls reading n) ls) × (dropped (sheet text ls reading m) ls ≡ dropped (sheet text ls reading n) ls)
 one-list text reading m n ls e f = (
-  ap (λ (s : State). drain (s .queue)) (read-alike (rulesOf reading) text m n ls e f),
-  dropped-alike (rulesOf reading) text m n ls e f,
+  ap (λ (s : State). drain (s .queue)) (read-alike (rulesOf reading) text (block-at (views text ls)) m n ls e f),
+  dropped-alike (rulesOf reading) text (block-at (views text ls)) m n ls e f,
 )

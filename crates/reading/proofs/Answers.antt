@@ -11,23 +11,23 @@ use Rattle.reading.specs.declared.Line.{Line}
 use Rattle.reading.specs.declared.Refused.{Refused}
 use Rattle.reading.specs.declared.Refused.the-variants as refused
 use Rattle.reading.specs.Machine.{Sheet, State}
-use Rattle.reading.specs.Reading.{sheet, read}
+use Rattle.reading.specs.Blocks.{block-at}
+use Rattle.reading.specs.Reading.{views, sheet-with, sheet, read}
 use Rattle.reading.specs.Draining.{drain}
 use Rattle.reading.specs.Events.{event-numbers}
-use Rattle.reading.specs.Questions.{Rooms, Outcome, Fed, total, first-outside, first-early, label-room, refuses, cleared, handed-out, judged, outcome}
+use Rattle.reading.specs.Questions.{Rooms, Outcome, Fed, total, first-outside, first-early, label-room, refuses, cleared, handed-out, judged}
+use Rattle.reading.specs.Questions.{outcome-with, outcome}
 use Rattle.reading.specs.Walked.{Accepted}
 use Rattle.reading.proofs.Choose.{choose}
 use Rattle.reading.proofs.Theorems.{room, whole}
 
 module _ (text : List ℕ) (ls : List Line) (reading : ℕ) (rooms : Rooms) where
-  abbrev x : Sheet
-  x = sheet text reading (label-room (rooms .labels))
-
   -- the questions: what holds of a refusal under 1 to 6, and of what comes of lines that pass 3 and 4, holds of the outcome
-  pub asks : (P : Outcome → Type 0) → ((code at : ℕ) → 1 ≤ code → code ≤ 6 → P (refuses code at rooms))
-      → (Fed text ls → P (judged (read x ls .refused) (read x ls .fits) (read x ls) rooms)) → P (outcome text ls reading rooms)
-  unfolding outcome
-  asks P early late =
+  pub asks-with : (block : ℕ → Bool) (P : Outcome → Type 0) → ((code at : ℕ) → 1 ≤ code → code ≤ 6 → P (refuses code at rooms))
+      → (Fed text ls → let s = read (sheet-with block text reading (label-room (rooms .labels))) ls in P (judged (s .refused) (s .fits) s rooms))
+      → P (outcome-with block text ls reading rooms)
+  unfolding outcome-with
+  asks-with block P early late =
       choose P (leb reading 1) _ _
       (λ a. choose P (leb (length text) 1048576 && leb (length ls) 1048576) _ _
       (λ b. choose P (ltb (first-outside text ls) (length ls)) _ _
@@ -41,6 +41,13 @@ module _ (text : List ℕ) (ls : List Line) (reading : ℕ) (rooms : Rooms) wher
       (λ f. early 5 0 (omega arith) (omega arith)))))
       (λ b. early 2 0 (omega arith) (omega arith)))
       (λ a. early 1 0 (omega arith) (omega arith))
+
+  abbrev x : Sheet
+  x = sheet text ls reading (label-room (rooms .labels))
+
+  pub asks : (P : Outcome → Type 0) → ((code at : ℕ) → 1 ≤ code → code ≤ 6 → P (refuses code at rooms))
+      → (Fed text ls → P (judged (read x ls .refused) (read x ls .fits) (read x ls) rooms)) → P (outcome text ls reading rooms)
+  asks = asks-with (block-at (views text ls))
 
   -- 7 and 8 are refusals too; behind them the list is handed out
   judges : (P : Outcome → Type 0) → ((code at : ℕ) → 1 ≤ code → code ≤ 8 → P (refuses code at (cleared rooms)))

@@ -1,4 +1,4 @@
--- Only a bare brace refuses, and it is met outside verbatim: every other rule leaves `refused` as it was. So the end adds nothing to a refused
+-- Only an attribute block refuses, and it is met outside verbatim: every other rule leaves `refused` as it was. So the end adds nothing to a refused
 -- sheet. And the links of a line are at most its bytes.
 use Prim.Native.Nat.{ℕ, zero, suc, _+_, _≤_}
 use mathlib.Core.Path.{_≡_, refl, sym, ap, _∙_}
@@ -34,7 +34,7 @@ module _ (x : Sheet) (v : View) where
   -- the brace is the one that may refuse
   outside-spared : (s : State) (h : Here) (r : Role) → Spared s (outside x v h r s)
   unfolding close-as
-  outside-spared s h r = ruled x x v s (λ a b. Spared s a) (λ a k. inl (ap (λ z. z .0) k)) (λ h o t os. inl refl) (λ h. inl refl) (λ h. inr refl) h r
+  outside-spared s h r = ruled x x v s (λ a b. Spared s a) (λ a k. inl (ap (λ z. z .0) k)) (λ h o t os. inl refl) (λ h. inl refl) (λ p. refl) (λ h. inr refl) h r
 
   by-spared : (s : State) (h : Here) (t : Token) (w : Inside) → s .inside ≡ w
       → (by-place x v h t w s .state .refused ≡ s .refused) ⊎ (by-place x v h t w s .state .inside ≡ inside.No)
@@ -83,7 +83,7 @@ pub start-outside : Outside start
 start-outside p e = refl
 
 -- a link for each step at most
-links-steps : (n : ℕ) (x : Sheet) (v : View) (a : Turn) → steps n x v a .state .links .0 ≤ n + a .state .links .0
+pub links-steps : (n : ℕ) (x : Sheet) (v : View) (a : Turn) → steps n x v a .state .links .0 ≤ n + a .state .links .0
 unfolding steps
 links-steps zero x v a = omega arith
 links-steps (suc n) x v a =

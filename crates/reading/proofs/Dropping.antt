@@ -151,7 +151,7 @@ module _ (Loose : ℕ → Type 0) (x : Sheet) (v : View) where
   unfolding close-as
   outside-tracked h t s is =
       ruled x x v s (λ a b. TracksBy (a .state .inside) (a .state) no-content) (λ a k. out-tracked (a .state) no-content (ap (λ z. z .1) k ∙ is))
-      (λ h o t os. out-tracked _ no-content is) (λ h. opened-tracked v h s) (λ h. out-tracked _ no-content is) h (role-of (t .kind))
+      (λ h o t os. out-tracked _ no-content is) (λ h. opened-tracked v h s) (λ p. refl) (λ h. out-tracked _ no-content is) h (role-of (t .kind))
 
   module _ (text : List ℕ) (at n : ℕ) (a : Turn) where
     -- a token: the same is dropped, and the content behind it is tracked

@@ -243,6 +243,7 @@ module _ (Loose : ℕ → Type 0) (text : List ℕ) (x : Sheet) (v : View) (i n 
       (λ h a. put-grows str _ _ _ (omega (arith, a .0)) (grows-puts _ (s .queue) (s .queue) _ (grows-same _ (s .queue)) (behind-row _ _ _ _ _ (omega (arith, a .0)))))
       (λ h a. grows-puts _ (s .queue) (s .queue) _ (grows-same _ (s .queue)) (behind-dashes _ _ _ (omega (arith, a .0))))
       verbatim-grows
+      (λ p. refl)
       (λ h a. grows-same _ (s .queue))
 
 -- what a cover shows, and what its spans take, lies within it

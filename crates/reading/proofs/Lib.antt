@@ -23,4 +23,6 @@ pub mod Hidden
 pub mod Dropping
 pub mod Alike
 pub mod Theorems
+pub mod Stopping
 pub mod Answers
+pub mod Lone

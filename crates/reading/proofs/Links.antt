@@ -1,6 +1,6 @@
 -- One step closes at most one link: only the closing of a link counts one, and every other rule leaves the count as it was.
 use Prim.Native.Nat.{suc, _≤_}
-use mathlib.Core.Path.{_≡_, ap}
+use mathlib.Core.Path.{_≡_, refl, ap}
 use native.Mathlib.Omega.{arith}
 use Rattle.lex.specs.declared.lex.Token.{Token}
 use Rattle.lex.specs.declared.lex.Next.{Next}
@@ -27,7 +27,7 @@ module _ (x : Sheet) (v : View) where
   by-links : (s : State) (h : Here) (t : Token) (w : Inside) → Once s (by-place x v h t w s)
   unfolding by-place close-as
   by-links s h t inside.No =
-      ruled x x v s (λ a b. Once s a) (λ a k. as-many s a (ap (λ z. z .2) k)) (λ h o t os. omega arith) (λ h. omega arith) (λ h. omega arith) h (role-of (t .kind))
+      ruled x x v s (λ a b. Once s a) (λ a k. as-many s a (ap (λ z. z .2) k)) (λ h o t os. omega arith) (λ h. omega arith) (λ p. refl) (λ h. omega arith) h (role-of (t .kind))
   by-links s h t (inside.Verbatim w) = as-many s (in-verbatim (x .rules) v h t w s) (ap (λ z. z .1) (in-kept v h s (x .rules) t w))
 
   on-links : (a : Turn) (t : Next) (c : Cursor) → Once (a .state) (on-token x v a t c)

@@ -1,9 +1,9 @@
 -- The rules of a token, gone through once, for two sheets side by side (`by-rule`). All but three leave four sides of the state as they were: the refusal, the
--- open verbatim, the count of links and whether all labels fitted. The three are a link that closes, a run that opens a verbatim, a bare brace (`ruled`).
+-- open verbatim, the count of links and whether all labels fitted. The three are a link that closes, a run that opens a verbatim, an attribute block (`ruled`).
 use Prim.Native.Nat.{ℕ, _+_, _-_, _≤_}
-use mathlib.Core.Path.{_≡_, refl}
+use mathlib.Core.Path.{_≡_, refl, subst}
 use mathlib.Core.List.{List, [], _∷_}
-use mathlib.Core.Bool.{Bool}
+use mathlib.Core.Bool.{Bool, true, false}
 use native.Mathlib.Omega.{arith}
 use lib.Dec.{leb, ltb}
 use lib.ListN.{drop}
@@ -37,7 +37,7 @@ use Rattle.reading.specs.Tokens.{role-of, is-caret, closing-of, plain, b
 use Rattle.reading.specs.Verbatim.{opens-verbatim, closes, closed-with, all-blank, bytes-of, skips, blank-content, in-verbatim}
 use Rattle.reading.specs.Containers.{Along, along, by-itself, seek, may-close, takes, span-with, closes-span, close-as, may-open, opens-or}
 use Rattle.reading.specs.Containers.{tried, container}
-use Rattle.reading.specs.Reading.{refuse, angle, colon, noted, bracketed, outside}
+use Rattle.reading.specs.Reading.{refuse, angle, colon, noted, bracketed, braced, outside}
 use Rattle.reading.proofs.Choose.{choose, choose₂}
 
 -- the four sides, and, inside a verbatim, those besides it
@@ -86,8 +86,21 @@ module _ (v : View) (h : Here) (s : State) where
       go by-itself = refl
       go (along inline) = refl
 
+-- a brace at which a block stands in both sheets, or in neither
+by-brace : (x y : Sheet) (v : View) (s : State) (P : Turn → Turn → Type 0) (h : Here) → x .block (v .base + h .from) ≡ y .block (v .base + h .from)
+    → (let a : Turn = record { cursor = h .cursor; state = refuse (v .base + h .from) s } in P a a)
+    → P (container x v h (plain str) s) (container y v h (plain str) s)
+    → P (braced x v h (x .block (v .base + h .from)) s) (braced y v h (y .block (v .base + h .from)) s)
+unfolding braced
+by-brace x y v s P h e refuses alone =
+    subst (λ (b : Bool). P (braced x v h (x .block (v .base + h .from)) s) (braced y v h b s)) e (go (x .block (v .base + h .from)))
+  where
+    go : (b : Bool) → P (braced x v h b s) (braced y v h b s)
+    go true = refuses
+    go false = alone
+
 -- P is of the turns that two sheets x and y make of a state, at a token that stands as `At` says. It is to be shown of what stands alone or opens, of what closes
--- an opener that was sought, of what the scans accept, of periods and hyphens, of a run that opens a verbatim, and of a bare brace
+-- an opener that was sought, of what the scans accept, of periods and hyphens, of a run that opens a verbatim, and of a brace
 module _ (x y : Sheet) (v : View) (s : State) (P : Turn → Turn → Type 0) (At : Here → Type 0)
     (moves : (h : Here) (j : ℕ) (c : Cursor) → h .to ≤ j → At h → At (record { from = h .from; to = j; cursor = c }))
     (alone : (h : Here) → At h → (m : Marks) → let a : Turn = record { cursor = h .cursor; state = opens-or v h (m .alone) (m .opens) s } in P a a)
@@ -98,8 +111,7 @@ module _ (x y : Sheet) (v : View) (s : State) (P : Turn → Turn → Type 0) (At
     (periods : (h : Here) → At h → let a : Turn = record { cursor = h .cursor; state = dots v (h .from) (h .to - h .from) s } in P a a)
     (hyphens : (h : Here) → At h
     → let a : Turn = record { cursor = h .cursor; state = puts (dashes (dashesOf (h .to - h .from)) (v .base + h .from)) no-str s } in P a a)
-    (opens : (h : Here) → At h → P (opens-verbatim v h s) (opens-verbatim v h s))
-    (refuses : (h : Here) → At h → let a : Turn = record { cursor = h .cursor; state = refuse (v .base + h .from) s } in P a a) where
+    (opens : (h : Here) → At h → P (opens-verbatim v h s) (opens-verbatim v h s)) where
   by-trial : (h : Here) → At h → (m : Marks) (os : List Opener) → seek (m .closes) (s .openers) ≡ os → P (tried x v h m os s) (tried y v h m os s)
   unfolding tried
   by-trial h e m [] k = alone h e m
@@ -130,32 +142,45 @@ module _ (x y : Sheet) (v : View) (s : State) (P : Turn → Turn → Type 0) (At
       (λ z. by-note _ (moves h (h .to + t .len) _ (omega arith) e) _)
       (λ z. contained _ (moves h (h .to) (p .cursor) (omega arith) e) bracket)
 
-  -- a token outside verbatim
-  pub by-rule : (h : Here) → At h → (r : Role) → P (outside x v h r s) (outside y v h r s)
+  -- a token outside verbatim. Of a brace it is to be shown apart, since a block may stand there in one sheet and not in the other
+  pub each-rule : (h : Here) → At h → (P (container x v h (plain str) s) (container y v h (plain str) s)
+      → P (braced x v h (x .block (v .base + h .from)) s) (braced y v h (y .block (v .base + h .from)) s))
+      → (r : Role) → P (outside x v h r s) (outside y v h r s)
   unfolding outside
-  by-rule h e role.Backticks = choose₂ P (leb (h .to - h .from) 255) _ _ _ _ (λ z. opens h e) (λ z. contained h e (plain str))
-  by-rule h e role.Brace = refuses h e
-  by-rule h e role.Lt = by-angle h e (autolinkOf (drop (h .to) (v .bytes)))
-  by-rule h e role.Colon = by-colon h e (symbolOf (drop (h .to) (v .bytes)))
-  by-rule h e role.Bracket = by-bracket h e _ _
-  by-rule h e role.Paren = contained h e (plain str)
-  by-rule h e role.Periods = periods h e
-  by-rule h e role.Hyphens = choose₂ P (ltb (h .to - h .from) 2) _ _ _ _ (λ z. contained h e (plain str)) (λ z. hyphens h e)
-  by-rule h e (role.Other m) = contained h e m
+  each-rule h e b role.Backticks = choose₂ P (leb (h .to - h .from) 255) _ _ _ _ (λ z. opens h e) (λ z. contained h e (plain str))
+  each-rule h e b role.Brace = b (contained h e (plain str))
+  each-rule h e b role.Lt = by-angle h e (autolinkOf (drop (h .to) (v .bytes)))
+  each-rule h e b role.Colon = by-colon h e (symbolOf (drop (h .to) (v .bytes)))
+  each-rule h e b role.Bracket = by-bracket h e _ _
+  each-rule h e b role.Paren = contained h e (plain str)
+  each-rule h e b role.Periods = periods h e
+  each-rule h e b role.Hyphens = choose₂ P (ltb (h .to - h .from) 2) _ _ _ _ (λ z. contained h e (plain str)) (λ z. hyphens h e)
+  each-rule h e b (role.Other m) = contained h e m
 
--- where P is of all that keeps the four sides, it is to be shown of a link that closes, of a run that opens a verbatim, and of a bare brace
+  -- with blocks at the same places: of one that refuses the sheet
+  pub by-rule : ((p : ℕ) → x .block p ≡ y .block p)
+      → ((h : Here) → At h → let a : Turn = record { cursor = h .cursor; state = refuse (v .base + h .from) s } in P a a)
+      → (h : Here) → At h → (r : Role) → P (outside x v h r s) (outside y v h r s)
+  by-rule same refuses h e = each-rule h e (by-brace x y v s P h (same (v .base + h .from)) (refuses h e))
+
+-- where P is of all that keeps the four sides, it is to be shown of a link that closes, of a run that opens a verbatim, and of a brace
 module _ (x y : Sheet) (v : View) (s : State) (P : Turn → Turn → Type 0) (keeps : (a : Turn) → Kept s a → P a a)
     (links : (h : Here) (o : Opener) (t : Target) (os : List Opener)
     → P (close-as x v h o (makes.Link t) (with-openers os s)) (close-as y v h o (makes.Link t) (with-openers os s)))
-    (opens : (h : Here) → P (opens-verbatim v h s) (opens-verbatim v h s))
-    (refuses : (h : Here) → let a : Turn = record { cursor = h .cursor; state = refuse (v .base + h .from) s } in P a a) where
+    (opens : (h : Here) → P (opens-verbatim v h s) (opens-verbatim v h s)) where
   closed : (h : Here) (o : Opener) (d : DelimEventKind) (os : List Opener) → P (close-as x v h o d (with-openers os s)) (close-as y v h o d (with-openers os s))
   unfolding close-as
   closed h o (makes.Pair p) os = keeps _ refl
   closed h o (makes.Span image) os = keeps _ (span-kept v h (with-openers os s) image o _ _)
   closed h o (makes.Link t) os = links h o t os
 
-  pub ruled : (h : Here) (r : Role) → P (outside x v h r s) (outside y v h r s)
-  ruled h r =
-      by-rule x y v s P (λ h. Unit {0}) (λ h j c l e. tt) (λ h e m. keeps _ (opens-kept v h s (m .alone) (m .opens))) (λ h e c o os k. closed h o (closing-of (o .sort)) os)
-      (λ h e n. keeps _ refl) (λ h e kind n. keeps _ refl) (λ h e. keeps _ refl) (λ h e. keeps _ refl) (λ h e. opens h) (λ h e. refuses h) h tt r
+  pub each-ruled : (h : Here) → (P (container x v h (plain str) s) (container y v h (plain str) s)
+      → P (braced x v h (x .block (v .base + h .from)) s) (braced y v h (y .block (v .base + h .from)) s))
+      → (r : Role) → P (outside x v h r s) (outside y v h r s)
+  each-ruled h b r =
+      each-rule x y v s P (λ h. Unit {0}) (λ h j c l e. tt) (λ h e m. keeps _ (opens-kept v h s (m .alone) (m .opens))) (λ h e c o os k. closed h o (closing-of (o .sort)) os)
+      (λ h e n. keeps _ refl) (λ h e kind n. keeps _ refl) (λ h e. keeps _ refl) (λ h e. keeps _ refl) (λ h e. opens h) h tt b r
+
+  pub ruled : ((p : ℕ) → x .block p ≡ y .block p) → ((h : Here) → let a : Turn = record { cursor = h .cursor; state = refuse (v .base + h .from) s } in P a a)
+      → (h : Here) (r : Role) → P (outside x v h r s) (outside y v h r s)
+  ruled same refuses h = each-ruled h (by-brace x y v s P h (same (v .base + h .from)) (refuses h))

@@ -2,7 +2,7 @@
 use Prim.Native.Nat.{ℕ, suc, _+_, _-_, _≤_}
 use mathlib.Core.Path.{_≡_, refl, sym, ap, _∙_}
 use mathlib.Core.List.{List}
-use mathlib.Core.Bool.{true}
+use mathlib.Core.Bool.{Bool, true, false}
 use mathlib.Core.Logic.{_⊎_, inl, inr}
 use native.Mathlib.Omega.{arith}
 use borrow.Author.Tests.{ltb-false}
@@ -32,7 +32,7 @@ use Rattle.reading.specs.Events.{str, symbol, footnote}
 use Rattle.reading.specs.Machine.{View, Sheet, State, Turn, Here}
 use Rattle.reading.specs.Tokens.{role-of, is-caret, plain, bracket}
 use Rattle.reading.specs.Containers.{container}
-use Rattle.reading.specs.Reading.{angle, colon, noted, bracketed, outside, by-place, here-at, on-token, unless, step}
+use Rattle.reading.specs.Reading.{angle, colon, noted, bracketed, braced, outside, by-place, here-at, on-token, unless, step}
 use Rattle.reading.specs.Walked.{Of}
 use Rattle.reading.proofs.Removed.{removes-in, removes-on, step-removes}
 use Rattle.reading.proofs.Choose.{choose}
@@ -43,7 +43,7 @@ use Rattle.reading.proofs.Containing.{container-fine}
 use Rattle.reading.proofs.Scanning.{dashes-fine, dots-fine, named-fine, autolinked-fine}
 use Rattle.reading.proofs.Backticks.{Shows, opens-fine, in-fine, drops-blank}
 
--- a turn that is as it should be, unless a bare brace was met; the queue and the openers are bounded also then
+-- a turn that is as it should be, unless an attribute block was met; the queue and the openers are bounded also then
 pub record Held (Loose : ℕ → Type 0) (text : List ℕ) (v : View) (m lo : ℕ) (a : Turn) : Type 0 where
   pub sound : Sound (v .bytes) (a .cursor)
   pub few : length (a .state .queue) ≤ m + a .cursor .pos
@@ -139,19 +139,24 @@ module _ (Loose : ℕ → Type 0) (text : List ℕ) (x : Sheet) (v : View) (m : 
                 sound = u .sound;
               }
 
-      -- a token outside verbatim
-      outside-held : (r : Role) → RoleOk r → Held Loose text v m (suc i) (outside x v now r s)
-      unfolding outside RoleOk
-      outside-held role.Backticks ok =
-          held (suc i) _
-          (choose (Fine Loose text v m (suc i)) (leb (j - i) 255) _ _ (λ e. opens-fine Loose text v m now k s g) (λ e. str-fine j c k))
-      outside-held role.Brace ok =
+      braced-held : (b : Bool) → Held Loose text v m (suc i) (braced x v now b s)
+      unfolding braced
+      braced-held true =
           record {
             sound = k .sound;
             few = omega (arith, g .few, k .long, k .place);
             opens = omega (arith, g .opens, k .long, k .place);
             good = λ e. absurd (met _ e);
           }
+      braced-held false = held (suc i) _ (str-fine j c k)
+
+      -- a token outside verbatim
+      outside-held : (r : Role) → RoleOk r → Held Loose text v m (suc i) (outside x v now r s)
+      unfolding outside RoleOk
+      outside-held role.Backticks ok =
+          held (suc i) _
+          (choose (Fine Loose text v m (suc i)) (leb (j - i) 255) _ _ (λ e. opens-fine Loose text v m now k s g) (λ e. str-fine j c k))
+      outside-held role.Brace ok = braced-held (x .block (v .base + i))
       outside-held role.Lt ok = held (suc i) _ (angle-fine j c k (autolinkOf (drop j (v .bytes))) refl)
       outside-held role.Colon ok = held (suc i) _ (colon-fine j c k (symbolOf (drop j (v .bytes))) refl)
       outside-held role.Bracket ok = held (suc i) _ (bracketed-fine (ahead-of .token) refl)

@@ -1,4 +1,4 @@
--- Demand 3 of document 01: of every sheet whose lines pass questions 3 and 4 and that no bare brace refuses, for any bytes and any rules.
+-- Demand 3 of document 01: of every sheet whose lines pass questions 3 and 4 and that no attribute block refuses, for any bytes and any rules.
 use Prim.Native.Nat.{ℕ, zero, suc, _+_, _≤_, _<_}
 use mathlib.Core.Path.{_≡_, refl, sym, ap, _∙_, subst}
 use mathlib.Core.List.{List, [], _∷_, append-nil}

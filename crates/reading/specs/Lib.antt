@@ -7,6 +7,7 @@ pub mod Verbatim
 pub mod Labels
 pub mod Containers
 pub mod Naming
+pub mod Blocks
 pub mod Reading
 pub mod Dropped
 pub mod Draining

@@ -46,14 +46,16 @@ abbrev pub rulesOf : ℕ → Rules
 rulesOf zero = record { later = false; after = λ here. here }
 rulesOf (suc n) = record { later = true; after = λ here. here }
 
--- what is the same for the whole sheet: the rules and, for labels, the text and the bytes that the label room holds
+-- what is the same for the whole sheet: the rules; for labels, the text and the bytes that the label room holds; and at which places an attribute
+-- block stands
 pub record Sheet : Type 0 where
   pub rules : Rules
   pub text : List ℕ
   pub room : ℕ
+  pub block : ℕ → Bool
 
 -- the state: events, the oldest first; openers, the newest first; the open verbatim; the newest event; the label bytes built, and whether
--- all of them fitted; the number of the next link that closes; the first bare brace
+-- all of them fitted; the number of the next link that closes; the first attribute block
 pub record State : Type 0 where
   pub queue : List Event
   pub openers : List Opener

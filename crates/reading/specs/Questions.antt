@@ -12,7 +12,8 @@ use Rattle.reading.specs.declared.Refused.the-variants as refused
 use Rattle.reading.specs.declared.Answer.{Answer}
 use Rattle.reading.specs.Events.{event-numbers, queue-numbers, opener-numbers, largest, label-limit}
 use Rattle.reading.specs.Machine.{State}
-use Rattle.reading.specs.Reading.{sheet, read}
+use Rattle.reading.specs.Blocks.{block-at}
+use Rattle.reading.specs.Reading.{views, sheet-with, read}
 use Rattle.reading.specs.Draining.{drain}
 
 -- N, the sum of the line lengths
@@ -101,15 +102,15 @@ handed-out es labels rooms =
       }
     ]
 
--- 7: is every bare opening brace inside verbatim? 8: does the label room hold all the labels built?
+-- 7: does no attribute block stand outside verbatim? 8: does the label room hold all the labels built?
 unfoldable pub judged : Refused → Bool → State → Rooms → Outcome
 judged (refused.At p) fits s rooms = refuses 7 (p .0) (cleared rooms)
 judged refused.No false s rooms = refuses 8 0 (cleared rooms)
 judged refused.No true s rooms = handed-out (drain (s .queue)) (s .labels) rooms
 
--- the whole answer, and the rooms at its end
-unfoldable pub outcome : List ℕ → List Line → ℕ → Rooms → Outcome
-outcome text ls reading rooms =
+-- the whole answer, and the rooms at its end, of a sheet with blocks at some places
+unfoldable pub outcome-with : (ℕ → Bool) → List ℕ → List Line → ℕ → Rooms → Outcome
+outcome-with block text ls reading rooms =
     -- 1: is the reading 0 or 1?
     elim (leb reading 1) [
       | false ↦ refuses 1 0 rooms
@@ -134,7 +135,7 @@ outcome text ls reading rooms =
                                   elim (leb (total ls) (length (rooms .openers) / opener-numbers)) [
                                     | false ↦ refuses 6 0 rooms
                                     | true ↦
-                                        let s = read (sheet text reading (label-room (rooms .labels))) ls in
+                                        let s = read (sheet-with block text reading (label-room (rooms .labels))) ls in
                                         judged (s .refused) (s .fits) s rooms
                                   ]
                             ]
@@ -142,3 +143,7 @@ outcome text ls reading rooms =
                 ]
           ]
     ]
+
+-- where the validator says that they stand
+abbrev pub outcome : List ℕ → List Line → ℕ → Rooms → Outcome
+outcome text ls reading rooms = outcome-with (block-at (views text ls)) text ls reading rooms

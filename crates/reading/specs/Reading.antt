@@ -2,7 +2,7 @@
 -- `parse_event`.
 use Prim.Native.Nat.{ℕ, zero, suc, _+_, _-_}
 use mathlib.Core.List.{List, [], _∷_, map}
-use mathlib.Core.Bool.{true, false}
+use mathlib.Core.Bool.{Bool, true, false}
 use lib.Dec.{leb, ltb}
 use lib.ListN.{length, take, drop}
 use Rattle.lex.specs.declared.lex.Token.{Token}
@@ -23,15 +23,15 @@ use Rattle.reading.specs.declared.Inside.the-variants as inside
 use Rattle.reading.specs.declared.Refused.{Refused}
 use Rattle.reading.specs.declared.Refused.the-variants as refused
 use Rattle.reading.specs.Events.{place, link, longest-run, str, symbol, footnote}
-use Rattle.reading.specs.Machine.{View, Sheet, State, Turn, Here, viewOf, rulesOf, puts, no-str, with-inside}
+use Rattle.reading.specs.Machine.{View, Sheet, State, Turn, Here, viewOf, rulesOf, puts, put, no-str, with-inside}
 use Rattle.reading.specs.Tokens.{role-of, is-caret, plain, bracket}
 use Rattle.reading.specs.Atoms.{dashes, dots, autolinked, named}
 use Rattle.reading.specs.Verbatim.{opens-verbatim, in-verbatim, moved-on, flag-of, ended-at}
 use Rattle.reading.specs.Containers.{container}
+use Rattle.reading.specs.Blocks.{block-at, everywhere}
 
--- a bare opening brace: the sheet is refused, and no later step is taken
-abbrev pub refuse : ℕ → State → State
-refuse at s =
+abbrev pub with-refused : Refused → State → State
+with-refused r s =
     record {
       queue = s .queue;
       openers = s .openers;
@@ -40,8 +40,12 @@ refuse at s =
       labels = s .labels;
       fits = s .fits;
       links = s .links;
-      refused = refused.At (place at);
+      refused = r;
     }
+
+-- an attribute block: the sheet is refused, and no later step is taken
+abbrev pub refuse : ℕ → State → State
+refuse at s = with-refused (refused.At (place at)) s
 
 -- `<`: an autolink if the scan accepts (Djot: an address in angle brackets); else as any token
 unfoldable pub angle : Sheet → View → Here → Ahead → State → Turn
@@ -68,11 +72,15 @@ bracketed x v h p (next.Some t) s =
       | false ↦ container x v (record { from = h .from; to = h .to; cursor = p .cursor }) bracket s
     ]
 
--- a token outside verbatim. A run of more than 255 backticks is Str; a bare opening brace refuses the sheet; each three periods are an ellipsis;
--- two and more hyphens are dashes
+-- `{`, bare: refused if an attribute block stands there; else as any token that opens and closes nothing
+unfoldable pub braced : Sheet → View → Here → Bool → State → Turn
+braced x v h true s = record { cursor = h .cursor; state = refuse (v .base + h .from) s }
+braced x v h false s = container x v h (plain str) s
+
+-- a token outside verbatim. A run of more than 255 backticks is Str; each three periods are an ellipsis; two and more hyphens are dashes
 unfoldable pub outside : Sheet → View → Here → Role → State → Turn
 outside x v h role.Backticks s = elim (leb (h .to - h .from) longest-run) [ true ↦ opens-verbatim v h s | false ↦ container x v h (plain str) s ]
-outside x v h role.Brace s = record { cursor = h .cursor; state = refuse (v .base + h .from) s }
+outside x v h role.Brace s = braced x v h (x .block (v .base + h .from)) s
 outside x v h role.Lt s = angle x v h (autolinkOf (drop (h .to) (v .bytes))) s
 outside x v h role.Colon s = colon x v h (symbolOf (drop (h .to) (v .bytes))) s
 outside x v h role.Bracket s = let p = peekOf (v .bytes) (h .cursor) in bracketed x v h p (p .token) s
@@ -108,7 +116,7 @@ unfoldable pub unless : {A : Type 0} → Refused → A → A → A
 unless (refused.At p) a b = a
 unless refused.No a b = b
 
--- so many steps, or up to a bare brace
+-- so many steps, or up to an attribute block
 unfoldable pub steps : ℕ → Sheet → View → Turn → Turn
 steps zero x v a = a
 steps (suc n) x v a = unless (a .state .refused) a (steps n x v (step x v a))
@@ -152,8 +160,21 @@ end-of (l ∷ ls) a = end-of ls (l .end)
 abbrev pub views : List ℕ → List Line → List View
 views text ls = map (viewOf text) ls
 
-abbrev pub sheet : List ℕ → ℕ → ℕ → Sheet
-sheet text reading room = record { rules = rulesOf reading; text = text; room = room }
+-- a sheet of a text in a reading, with a label room of so many bytes, and with blocks at some places
+abbrev pub sheet-with : (ℕ → Bool) → List ℕ → ℕ → ℕ → Sheet
+sheet-with block text reading room = record { rules = rulesOf reading; text = text; room = room; block = block }
+
+-- the sheet that some lines of a text are
+abbrev pub sheet : List ℕ → List Line → ℕ → ℕ → Sheet
+sheet text ls reading room = sheet-with (block-at (views text ls)) text reading room
+
+-- where no brace has been asked: a block is taken to stand at each, so that the reading stops there
+abbrev pub unasked : List ℕ → ℕ → ℕ → Sheet
+unasked text reading room = sheet-with everywhere text reading room
+
+-- behind such a stop at the brace at p, if no block stands there: the brace is Str, and the line goes on
+abbrev pub resumed : View → ℕ → Turn → Turn
+resumed v p a = record { cursor = a .cursor; state = put v str (p - v .base) (a .cursor .pos) (with-refused refused.No (a .state)) }
 
 -- what the lines of a sheet give: all lines, and the end
 abbrev pub read : Sheet → List Line → State

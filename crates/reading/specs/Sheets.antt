@@ -50,7 +50,7 @@ expected r =
 
 -- the blanks that are dropped
 abbrev pub blanks : Row → List Line
-blanks r = dropped (sheet (bytes (r .text)) (r .reading) 16) (r .lines)
+blanks r = dropped (sheet (bytes (r .text)) (r .lines) (r .reading) 16) (r .lines)
 
 abbrev pub span : ℕ → ℕ → Line
 span a b = record { start = a; end = b }
@@ -68,7 +68,7 @@ given text lines reading events labels =
 abbrev pub one-line : String → List Event → String → Row
 one-line text events labels = given text (span 0 (length (bytes text)) ∷ []) 0 events labels
 
--- a bare brace
+-- an attribute block
 abbrev pub refused-at : String → List Line → ℕ → ℕ → Row
 refused-at text lines reading at =
     record { text = text; lines = lines; reading = reading; code = 7; at = at; events = []; labels = "" }

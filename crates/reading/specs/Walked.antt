@@ -97,6 +97,6 @@ pub record Whole (x : Sheet) (ls : List Line) : Type 0 where
 
 -- an accepted sheet: the events handed out are that list, and demand 3 holds of it
 pub record Accepted (text : List ℕ) (ls : List Line) (reading : ℕ) (rooms : Rooms) (o : Outcome) : Type 0 where
-  pub whole : Whole (sheet text reading (label-room (rooms .labels))) ls
-  pub count : o .answer .events ≡ length (events (sheet text reading (label-room (rooms .labels))) ls)
-  pub handed : o .rooms .events ≡ filled (numbers (events (sheet text reading (label-room (rooms .labels))) ls)) (rooms .events)
+  pub whole : Whole (sheet text ls reading (label-room (rooms .labels))) ls
+  pub count : o .answer .events ≡ length (events (sheet text ls reading (label-room (rooms .labels))) ls)
+  pub handed : o .rooms .events ≡ filled (numbers (events (sheet text ls reading (label-room (rooms .labels))) ls)) (rooms .events)

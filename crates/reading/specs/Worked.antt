@@ -19,7 +19,7 @@ worked =
     ∷ one-line "[a](b)" (homed 46 (at-home 1 4 5 0) 0 1 ∷ event 1 1 2 ∷ homed 78 (at-home 1 4 5 0) 2 6 ∷ []) ""
     ∷ one-line "[a][]" (homed 44 (at-home 2 0 1 0) 0 1 ∷ event 1 1 2 ∷ homed 76 (at-home 2 0 1 0) 2 5 ∷ []) "a"
     ∷ one-line "`` `a` ``" (event 40 0 2 ∷ event 1 3 6 ∷ event 72 7 9 ∷ []) ""
-    ∷ refused-at "a{b}" (span 0 4 ∷ []) 0 1
+    ∷ one-line "a{b}" (event 1 0 4 ∷ []) ""
     ∷ []
 
 -- the blanks that each of them drops: of one alone two
@@ -39,4 +39,25 @@ others =
     (homed 46 (at-home 2 2 13 1) 0 1 ∷ event 1 1 2 ∷ homed 78 (at-home 2 2 13 1) 2 17 ∷ []) "cdx[b](c> d)e"
     ∷ one-line "```````````````````````````````````````````````````````````````````````````````````````````````````````````````````````````````````````````````````````````````````````````````````````````````````````````````````````````````````````````````````````````````" (event 40 0 255 ∷ event 72 255 255 ∷ []) ""
     ∷ one-line "````````````````````````````````````````````````````````````````````````````````````````````````````````````````````````````````````````````````````````````````````````````````````````````````````````````````````````````````````````````````````````````````" (event 1 0 256 ∷ []) ""
+    ∷ []
+
+-- braces (document 02, L2): lone ones are Str; where a block stands the sheet is refused. Over two lines what lies between them is not fed: in the first of
+-- two such sheets it would not let the block end, in the second it would end it
+unfoldable pub braces : List Row
+braces =
+    one-line "{" (event 1 0 1 ∷ []) ""
+    ∷ refused-at "{}" (span 0 2 ∷ []) 0 0
+    ∷ refused-at "{.a}" (span 0 4 ∷ []) 0 0
+    ∷ refused-at "{.a}" (span 0 4 ∷ []) 1 0
+    ∷ one-line "{door" (event 1 0 5 ∷ []) ""
+    ∷ given "{door" (span 0 5 ∷ []) 1 (event 1 0 5 ∷ []) ""
+    ∷ refused-at "{a=\"\n$%\"}" (span 0 5 ∷ span 7 9 ∷ []) 0 0
+    ∷ given "{a=\"\n\"}b" (span 0 5 ∷ span 7 8 ∷ []) 0 (event 1 0 3 ∷ event 12 3 4 ∷ event 2 4 5 ∷ event 1 7 8 ∷ []) ""
+    ∷ one-line "{%" (event 1 0 2 ∷ []) ""
+    ∷ refused-at "{a=\"\\\"}\"}" (span 0 9 ∷ []) 0 0
+    ∷ one-line "`{.a}`" (event 40 0 1 ∷ event 1 1 5 ∷ event 72 5 6 ∷ []) ""
+    ∷ one-line "*a*{" (event 38 0 1 ∷ event 1 1 2 ∷ event 70 2 3 ∷ event 1 3 4 ∷ []) ""
+    ∷ refused-at "*a*{.b}" (span 0 7 ∷ []) 0 3
+    ∷ one-line "[a](b{c)" (homed 46 (at-home 1 4 7 0) 0 1 ∷ event 1 1 2 ∷ homed 78 (at-home 1 4 7 0) 2 8 ∷ []) ""
+    ∷ refused-at "[a](b{.c})" (span 0 10 ∷ []) 0 5
     ∷ []

@@ -158,7 +158,7 @@ pub struct Last {
     pub dollars: u32,
 }
 
-// The first bare opening brace outside verbatim, if one was met.
+// The brace outside verbatim at which the reading stopped: at the end, the first at which an attribute block stands.
 pub enum Refused {
     At(Place),
     No,

@@ -4,6 +4,8 @@ pub mod line_count
 pub mod line_at
 pub mod check_lines
 pub mod questions
+pub mod block_at
+pub mod parse_line
 pub mod parse
 pub mod parse_lines
 pub mod read

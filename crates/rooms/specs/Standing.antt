@@ -9,6 +9,7 @@ use Rattle.reading.specs.declared.Place.{Place}
 use Rattle.reading.specs.declared.Inside.{Inside}
 use Rattle.reading.specs.declared.Inside.the-variants as inside
 use Rattle.reading.specs.declared.Last.{Last}
+use Rattle.reading.specs.declared.Refused.{Refused}
 use Rattle.reading.specs.declared.Refused.the-variants as refused
 use Rattle.reading.specs.Events.{link, queue-numbers, largest}
 use Rattle.reading.specs.Machine.{View, State, Turn, Here}
@@ -66,9 +67,9 @@ insideOf p w =
       refused = p .refused;
     }
 
--- a bare brace met
-abbrev pub refusing : Parser → Place → Parser
-refusing p at =
+-- refused, or not
+abbrev pub with-refused : Parser → Refused → Parser
+with-refused p r =
     record {
       cursor = p .cursor;
       events = p .events;
@@ -78,8 +79,12 @@ refusing p at =
       labels = p .labels;
       fits = p .fits;
       links = p .links;
-      refused = refused.At at;
+      refused = r;
     }
+
+-- a brace met
+abbrev pub refusing : Parser → Place → Parser
+refusing p at = with-refused p (refused.At at)
 
 -- n events, and what is noted of the last
 abbrev pub with-events : Parser → ℕ → Last → Parser

@@ -8,7 +8,7 @@ ghost use Rattle.reading.specs.Events.{homed, becomes, becomes-to, shorter, que
 ghost use Rattle.reading.specs.Machine.{amend};
 ghost use Rattle.reading.specs.Containers.{seek as sought};
 ghost use Rattle.rooms.specs.Records.{eventAt, events, encode, openerAt, opens, place};
-ghost use Rattle.rooms.specs.Standing.{moved as movedTo, insideOf, refusing as refusingAt, freshOf};
+ghost use Rattle.rooms.specs.Standing.{moved as movedTo, insideOf, with-refused, refusing as refusingAt, freshOf};
 use lex::Cursor;
 use lex::Next;
 use lex::Token;
@@ -26,7 +26,7 @@ use reading::Verbatim;
 use reading::closer;
 
 // What a reading is at between two tokens: the cursor in the line, how many records the queue and the openers hold, the open verbatim, the
-// newest event, the label bytes built and whether all of them fitted, the next link's number, and the first bare brace.
+// newest event, the label bytes built and whether all of them fitted, the next link's number, and the brace at which it stands.
 pub struct Parser {
     pub cursor: Cursor,
     pub events: usize,
@@ -144,7 +144,7 @@ pub fn inside(p: Parser, w: Inside) -> Parser
     }
 }
 
-// The parser that met a bare brace.
+// The parser that met a brace.
 pub fn refusing(p: Parser, at: Place) -> Parser
     ensures { λ r. ⌜ r ≡ refusingAt p at ⌝ }
 {
@@ -162,6 +162,27 @@ pub fn refusing(p: Parser, at: Place) -> Parser
         fits: p.fits,
         links: links,
         refused: Refused::At(at),
+    }
+}
+
+// The parser that goes on behind it.
+pub fn unrefused(p: Parser) -> Parser
+    ensures { λ r. ⌜ r ≡ with-refused p Refused.No ⌝ }
+{
+    let cursor = p.cursor;
+    let w = p.inside;
+    let last = p.last;
+    let links = p.links;
+    Parser {
+        cursor: cursor,
+        events: p.events,
+        openers: p.openers,
+        inside: w,
+        last: last,
+        labels: p.labels,
+        fits: p.fits,
+        links: links,
+        refused: Refused::No,
     }
 }
 

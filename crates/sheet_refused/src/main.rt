@@ -1,4 +1,4 @@
-// `sheet`, on a sheet with a bare brace, behind one in verbatim.
+// `sheet`, on a sheet with an attribute block over two lines, behind lone braces and one in verbatim.
 fn main() {
     show::show_input();
 }

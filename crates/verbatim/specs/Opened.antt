@@ -10,7 +10,7 @@ use Rattle.reading.specs.declared.Inside.{Inside}
 use Rattle.reading.specs.declared.Inside.the-variants as inside
 use Rattle.reading.specs.Events.{enter-from, exit-from}
 use Rattle.reading.specs.Machine.{View, State}
-use Rattle.reading.specs.Reading.{begun, sheet}
+use Rattle.reading.specs.Reading.{begun, unasked}
 use Rattle.reading.specs.Verbatim.{exits}
 use Rattle.rooms.specs.declared.Parser.{Parser}
 use Rattle.rooms.specs.Records.{eventAt}
@@ -44,5 +44,5 @@ headed w n a b s = exits w (take n (s .queue)) a b s
 
 -- a new line, of any sheet in a reading
 pub record Begun (reading : ℕ) (p r : Parser) : Type 0 where
-  pub same : (text q o l : List ℕ) (room : ℕ) (v : View) → turn r q o l ≡ begun (sheet text reading room) v (stands p q o l)
+  pub same : (text q o l : List ℕ) (room : ℕ) (v : View) → turn r q o l ≡ begun (unasked text reading room) v (stands p q o l)
   pub labels : r .labels ≡ p .labels

@@ -65,7 +65,7 @@ behind text es rooms o out =
 -- the whole answer, and the five rooms at its end
 abbrev pub fragmented : List ℕ → List Line → ℕ → Rooms → List ℕ → Fragmented
 fragmented text ls reading rooms out =
-    behind text (events (sheet text reading (label-room (rooms .labels))) ls) rooms (outcome text ls reading rooms) out
+    behind text (events (sheet text ls reading (label-room (rooms .labels))) ls) rooms (outcome text ls reading rooms) out
 
 -- so much output room always suffices: five bytes for each byte of the lines, and 29 for each event, of which there are at most N + 1
 abbrev pub enough : List Line → ℕ
@@ -85,4 +85,4 @@ read-of f =
 -- of an accepted call demand 3 holds, and the fragment is faithful to the events
 pub record Shows (text : List ℕ) (ls : List Line) (reading : ℕ) (rooms : Rooms) (f : Fragmented) : Type 0 where
   pub accepted : Accepted text ls reading rooms (read-of f)
-  pub faithful : Faithful text (events (sheet text reading (label-room (rooms .labels))) ls)
+  pub faithful : Faithful text (events (sheet text ls reading (label-room (rooms .labels))) ls)

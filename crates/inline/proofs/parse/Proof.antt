@@ -1,11 +1,12 @@
 -- `inline::parse` meets its contract, by the laws of `Sheets`.
 use Prim.Native.Nat.{_-_}
+use mathlib.Core.Path.{ap}
 use native.Mathlib.Omega.{arith}
 use borrow.Author.Needs.{needs}
 use lib.ListN.{length}
 use Rattle.inline.specs.Lines.{lines-of}
 use Rattle.inline.proofs.Pairs.{lines-length, lines-at}
-use Rattle.inline.proofs.Sheets.{Head, head-first, head-fed, head-next, end-small, end-room, end-closing, head-last}
+use Rattle.inline.proofs.Sheets.{Head, head-first, head-behind, head-next, end-small, end-room, end-closing, head-last}
 use Rattle.inline.proofs.parse.Statement.{statement}
 use Rattle.inline.proofs.parse.Tie as tie
 
@@ -19,8 +20,7 @@ classes-requires : tie.Need-classes-requires Inv-loop μ-loop
 classes-requires c κs = search needs
 
 fresh-requires : tie.Need-fresh-requires Inv-loop μ-loop
-fresh-requires c κs =
-    search needs
+fresh-requires c κs = search needs
 
 loop-holds : tie.Need-loop-holds Inv-loop μ-loop
 loop-holds c =
@@ -29,54 +29,44 @@ loop-holds c =
     let fresh = c .fresh in
     head-first (args .text .now) (lines-of (args .starts .now) (args .ends .now)) (args .reading) (args .queue .now) (args .openers .now) (args .labels .now) (pre .1) (fresh .result) (fresh .ensures .0) (fresh .ensures .1 .0)
 
-mul-start : tie.Need-mul-start Inv-loop μ-loop
-mul-start c =
-    search needs
-
-shared-slice-read-start : tie.Need-shared-slice-read-start Inv-loop μ-loop
-shared-slice-read-start c =
-    let loop-test = c .before .loop-test in
-    loop-test .taken
-
 mul-end : tie.Need-mul-end Inv-loop μ-loop
-mul-end c =
-    search needs
+mul-end c = search needs
 
 shared-slice-read-end : tie.Need-shared-slice-read-end Inv-loop μ-loop
 shared-slice-read-end c =
-    let loop-test = c .before .before .loop-test in
-    let pre = c .before .before .before .before .before .before .before .before .before .before .before .before .pre in
+    let loop-test = c .before .loop-test in
+    let pre = c .before .before .before .before .before .before .before .before .before .before .before .pre in
     omega (arith, loop-test .taken, pre .0)
 
-feed-line-requires : tie.Need-feed-line-requires Inv-loop μ-loop
-feed-line-requires c κs =
-    let args = c .before .before .before .before .before .before .before .before .before .before .before .before .before .before .before .before .args in
-    let pre = c .before .before .before .before .before .before .before .before .before .before .before .before .before .before .before .before .pre in
-    let classes = c .before .before .before .before .before .before .before .before .before .classes in
-    let loop = c .before .before .before .before .before .before .before .loop in
-    let loop-test = c .before .before .before .before .before .before .loop-test in
-    (head-fed (args .text .now) (lines-of (args .starts .now) (args .ends .now)) (args .reading) (args .queue .now) (args .openers .now) (args .labels .now) (pre .1) (loop .queue) (loop .openers) (loop .labels) (loop .p) (loop .end) (loop .i) (loop .inv) (omega (arith, loop-test .taken, lines-length (args .starts .now) (args .ends .now) (pre .0))) _ (lines-at (args .starts .now) (args .ends .now) (loop .i) (loop-test .taken) (omega (arith, loop-test .taken, pre .0))), classes .ensures)
+parse-line-requires : tie.Need-parse-line-requires Inv-loop μ-loop
+parse-line-requires c κs =
+    let pre = c .before .before .before .before .before .before .before .before .before .before .before .before .before .before .before .pre in
+    let args = c .before .before .before .before .before .before .before .before .before .before .before .before .before .before .before .args in
+    let loop = c .before .before .before .before .before .before .loop in
+    let loop-test = c .before .before .before .before .before .loop-test in
+    let classes = c .before .before .before .before .before .before .before .before .classes in
+    (pre .0, (head-behind (args .text .now) (lines-of (args .starts .now) (args .ends .now)) (args .reading) (args .queue .now) (args .openers .now) (args .labels .now) (pre .1) (loop .queue) (loop .openers) (loop .labels) (loop .p) (loop .end) (loop .i) (loop .inv) (omega (arith, loop-test .taken, lines-length (args .starts .now) (args .ends .now) (pre .0))), (loop .inv .labels, classes .ensures)))
 
 add-i : tie.Need-add-i Inv-loop μ-loop
 add-i c =
-    let loop-test = c .before .before .before .before .before .before .before .before .before .before .before .before .before .loop-test in
-    let pre = c .before .before .before .before .before .before .before .before .before .before .before .before .before .before .before .before .before .before .before .before .before .before .before .pre in
-    let args = c .before .before .before .before .before .before .before .before .before .before .before .before .before .before .before .before .before .before .before .before .before .before .before .args in
+    let loop-test = c .before .before .before .before .before .before .before .before .before .before .before .before .loop-test in
+    let pre = c .before .before .before .before .before .before .before .before .before .before .before .before .before .before .before .before .before .before .before .before .before .before .pre in
+    let args = c .before .before .before .before .before .before .before .before .before .before .before .before .before .before .before .before .before .before .before .before .before .before .args in
     omega (arith, loop-test .taken, pre .1 .listed, lines-length (args .starts .now) (args .ends .now) (pre .0))
 
 loop-less : tie.Need-loop-less Inv-loop μ-loop
 loop-less c =
-    let loop-test = c .before .before .before .before .before .before .before .before .before .before .before .before .before .loop-test in
+    let loop-test = c .before .before .before .before .before .before .before .before .before .before .before .before .loop-test in
     omega (arith, loop-test .taken)
 
 loop-again : tie.Need-loop-again Inv-loop μ-loop
 loop-again c =
-    let args = c .before .before .before .before .before .before .before .before .before .before .before .before .before .before .before .before .before .before .before .before .before .before .before .args in
-    let pre = c .before .before .before .before .before .before .before .before .before .before .before .before .before .before .before .before .before .before .before .before .before .before .before .pre in
-    let loop = c .before .before .before .before .before .before .before .before .before .before .before .before .before .before .loop in
-    let loop-test = c .before .before .before .before .before .before .before .before .before .before .before .before .before .loop-test in
-    let feed-line = c .before .before .before .before .before .before .feed-line in
-    head-next (args .text .now) (lines-of (args .starts .now) (args .ends .now)) (args .reading) (args .queue .now) (args .openers .now) (args .labels .now) (pre .1) (loop .queue) (loop .openers) (loop .labels) (loop .p) (loop .end) (loop .i) (loop .inv) (omega (arith, loop-test .taken, lines-length (args .starts .now) (args .ends .now) (pre .0))) _ (lines-at (args .starts .now) (args .ends .now) (loop .i) (loop-test .taken) (omega (arith, loop-test .taken, pre .0))) (feed-line .result) (feed-line .last .1 .1 .1 .1 .1 .0) (feed-line .last .1 .1 .1 .1 .1 .1 .0) (feed-line .last .1 .1 .1 .1 .1 .1 .1 .0) (feed-line .ensures) (feed-line .kept .1 .1 .1 .1 .1 .0) (feed-line .kept .1 .1 .1 .1 .1 .1 .0) (feed-line .kept .1 .1 .1 .1 .1 .1 .1 .0)
+    let args = c .before .before .before .before .before .before .before .before .before .before .before .before .before .before .before .before .before .before .before .before .before .before .args in
+    let pre = c .before .before .before .before .before .before .before .before .before .before .before .before .before .before .before .before .before .before .before .before .before .before .pre in
+    let loop = c .before .before .before .before .before .before .before .before .before .before .before .before .before .loop in
+    let loop-test = c .before .before .before .before .before .before .before .before .before .before .before .before .loop-test in
+    let parse-line = c .before .before .before .before .before .before .parse-line in
+    head-next (args .text .now) (lines-of (args .starts .now) (args .ends .now)) (args .reading) (args .queue .now) (args .openers .now) (args .labels .now) (pre .1) (loop .queue) (loop .openers) (loop .labels) (loop .p) (loop .end) (loop .i) (loop .inv) (omega (arith, loop-test .taken, lines-length (args .starts .now) (args .ends .now) (pre .0))) (parse-line .result) (parse-line .last .1 .1 .1 .1 .1 .1 .0) (parse-line .last .1 .1 .1 .1 .1 .1 .1 .0) (parse-line .last .1 .1 .1 .1 .1 .1 .1 .1 .0) (parse-line .ensures) (parse-line .kept .1 .1 .1 .1 .1 .1 .0) (parse-line .kept .1 .1 .1 .1 .1 .1 .1 .0) (parse-line .kept .1 .1 .1 .1 .1 .1 .1 .1 .0) _ (ap (λ z. z .end) (lines-at (args .starts .now) (args .ends .now) (loop .i) (loop-test .taken) (omega (arith, loop-test .taken, pre .0))))
 
 finish-requires : tie.Need-finish-requires Inv-loop μ-loop
 finish-requires c κs =
@@ -90,7 +80,7 @@ same-length : tie.Need-same-length Inv-loop μ-loop
 same-length c =
     let finish = c .before .before .finish in
     let loop = c .before .before .before .before .before .loop in
-    omega (arith, (finish .kept .1 .1 .0), loop .inv .long-q)
+    omega (arith, ((finish .kept .1 .1 .0)), loop .inv .long-q)
 
 same-length-2 : tie.Need-same-length-2 Inv-loop μ-loop
 same-length-2 c =
@@ -120,11 +110,9 @@ parse-spec =
     classes-requires
     fresh-requires
     loop-holds
-    mul-start
-    shared-slice-read-start
     mul-end
     shared-slice-read-end
-    feed-line-requires
+    parse-line-requires
     add-i
     loop-less
     loop-again

@@ -2,8 +2,6 @@
 use mathlib.Core.Path.{sym, _∙_}
 use native.Mathlib.Omega.{arith}
 use borrow.Author.Needs.{needs}
-use lib.ListN.{length}
-use Rattle.rooms.specs.Standing.{stands, viewed}
 use Rattle.inline.proofs.Begins.{lined-begins}
 use Rattle.inline.proofs.Turning.{Turns, turns-first, turns-before, turns-next, turns-over, turns-last}
 use Rattle.inline.proofs.read_line.Statement.{statement}
@@ -15,20 +13,14 @@ Inv-loop text line m reading queue₀ openers₀ labels₀ flags n out₀ left�
 abbrev μ-loop : tie.MeasureT-loop
 μ-loop text line m reading queue₀ openers₀ labels₀ flags n out₀ left₀ queue openers labels out left = left
 
-begun-requires : tie.Need-begun-requires Inv-loop μ-loop
-begun-requires c κs =
-    search needs
-
 loop-holds : tie.Need-loop-holds Inv-loop μ-loop
 loop-holds c =
-    let args = c .before .before .before .before .before .before .args in
-    let begun = c .begun in
-    let pre = c .before .before .before .before .before .before .pre in
-    turns-first (args .text .now) (args .line .now) (args .m) (args .reading) (args .queue .now) (args .openers .now) (args .labels .now) (args .p) (begun .result) (lined-begins (args .text .now) (args .line .now) (args .m) (args .reading) (args .p) (args .queue .now) (args .openers .now) (args .labels .now) (pre .0)) (begun .ensures)
+    let args = c .before .before .before .before .before .args in
+    let pre = c .before .before .before .before .before .pre in
+    turns-first (args .text .now) (args .line .now) (args .m) (args .reading) (args .queue .now) (args .openers .now) (args .labels .now) (args .p) (lined-begins (args .text .now) (args .line .now) (args .m) (args .reading) (args .p) (args .queue .now) (args .openers .now) (args .labels .now) (pre .0))
 
 over-requires : tie.Need-over-requires Inv-loop μ-loop
-over-requires c κs =
-    search needs
+over-requires c κs = search needs
 
 same-length : tie.Need-same-length Inv-loop μ-loop
 same-length c =
@@ -47,23 +39,21 @@ same-length-3 c =
 
 returns : tie.Need-returns Inv-loop μ-loop
 returns c =
-    let args = c .before .before .before .before .before .before .before .before .before .before .args in
-    let begun = c .before .before .before .before .begun in
+    let args = c .before .before .before .before .before .before .before .before .before .args in
     let loop = c .before .before .before .loop in
     let over = c .before .over in
     let if1 = c .if1 in
-    turns-over (args .text .now) (args .line .now) (args .m) (args .reading) (args .queue .now) (args .openers .now) (args .labels .now) (begun .result) (loop .queue) (loop .openers) (loop .labels) (loop .out) (loop .left) (loop .inv) (stands (args .p) (args .queue .now) (args .openers .now) (args .labels .now)) (begun .ensures .same (args .text .now) (args .queue .now) (args .openers .now) (args .labels .now) (length (args .labels .now)) (viewed (args .m) (args .line .now))) (sym (over .ensures) ∙ if1 .taken)
+    turns-over (args .text .now) (args .line .now) (args .m) (args .reading) (args .queue .now) (args .openers .now) (args .labels .now) (args .p) (loop .queue) (loop .openers) (loop .labels) (loop .out) (loop .left) (loop .inv) (sym (over .ensures) ∙ if1 .taken)
 
 parse-event-requires : tie.Need-parse-event-requires Inv-loop μ-loop
 parse-event-requires c κs =
-    let args = c .before .before .before .before .before .before .before .before .before .before .before .before .before .args in
-    let pre = c .before .before .before .before .before .before .before .before .before .before .before .before .before .pre in
-    let begun = c .before .before .before .before .before .before .before .begun in
+    let args = c .before .before .before .before .before .before .before .before .before .before .before .before .args in
     let loop = c .before .before .before .before .before .before .loop in
     let loop-test = c .before .before .before .before .before .loop-test in
     let over = c .before .before .before .before .over in
     let if1 = c .before .before .before .if1 in
-    (turns-before (args .text .now) (args .line .now) (args .m) (args .reading) (args .queue .now) (args .openers .now) (args .labels .now) (begun .result) (loop .queue) (loop .openers) (loop .labels) (loop .out) (loop .left) (loop .inv) (loop-test .taken) (sym (over .ensures) ∙ if1 .left), pre .1)
+    let pre = c .before .before .before .before .before .before .before .before .before .before .before .before .pre in
+    (turns-before (args .text .now) (args .line .now) (args .m) (args .reading) (args .queue .now) (args .openers .now) (args .labels .now) (args .p) (loop .queue) (loop .openers) (loop .labels) (loop .out) (loop .left) (loop .inv) (loop-test .taken) (sym (over .ensures) ∙ if1 .left), pre .1)
 
 sub-left : tie.Need-sub-left Inv-loop μ-loop
 sub-left c =
@@ -77,14 +67,13 @@ loop-less c =
 
 loop-again : tie.Need-loop-again Inv-loop μ-loop
 loop-again c =
-    let args = c .before .before .before .before .before .before .before .before .before .before .before .before .before .before .before .before .before .before .before .before .args in
-    let begun = c .before .before .before .before .before .before .before .before .before .before .before .before .before .before .begun in
+    let args = c .before .before .before .before .before .before .before .before .before .before .before .before .before .before .before .before .before .before .before .args in
     let loop = c .before .before .before .before .before .before .before .before .before .before .before .before .before .loop in
     let loop-test = c .before .before .before .before .before .before .before .before .before .before .before .before .loop-test in
     let over = c .before .before .before .before .before .before .before .before .before .before .before .over in
     let if1 = c .before .before .before .before .before .before .before .before .before .before .if1 in
     let parse-event = c .before .before .before .before .before .before .parse-event in
-    turns-next (args .text .now) (args .line .now) (args .m) (args .reading) (args .queue .now) (args .openers .now) (args .labels .now) (begun .result) (loop .queue) (loop .openers) (loop .labels) (loop .out) (loop .left) (loop .inv) (loop-test .taken) (sym (over .ensures) ∙ if1 .left) (parse-event .result) (parse-event .last .1 .1 .1 .1 .1 .0) (parse-event .last .1 .1 .1 .1 .1 .1 .0) (parse-event .last .1 .1 .1 .1 .1 .1 .1 .0) (parse-event .ensures) (parse-event .kept .1 .1 .1 .1 .1 .0) (parse-event .kept .1 .1 .1 .1 .1 .1 .0) (parse-event .kept .1 .1 .1 .1 .1 .1 .1 .0)
+    turns-next (args .text .now) (args .line .now) (args .m) (args .reading) (args .queue .now) (args .openers .now) (args .labels .now) (args .p) (loop .queue) (loop .openers) (loop .labels) (loop .out) (loop .left) (loop .inv) (loop-test .taken) (sym (over .ensures) ∙ if1 .left) (parse-event .result) (parse-event .last .1 .1 .1 .1 .1 .0) (parse-event .last .1 .1 .1 .1 .1 .1 .0) (parse-event .last .1 .1 .1 .1 .1 .1 .1 .0) (parse-event .ensures) (parse-event .kept .1 .1 .1 .1 .1 .0) (parse-event .kept .1 .1 .1 .1 .1 .1 .0) (parse-event .kept .1 .1 .1 .1 .1 .1 .1 .0)
 
 same-length-4 : tie.Need-same-length-4 Inv-loop μ-loop
 same-length-4 c =
@@ -103,11 +92,10 @@ same-length-6 c =
 
 returns-2 : tie.Need-returns-2 Inv-loop μ-loop
 returns-2 c =
-    let args = c .before .before .before .before .before .before .before .before .args in
-    let begun = c .before .before .begun in
+    let args = c .before .before .before .before .before .before .before .args in
     let loop = c .before .loop in
     let loop-test = c .loop-test in
-    turns-last (args .text .now) (args .line .now) (args .m) (args .reading) (args .queue .now) (args .openers .now) (args .labels .now) (begun .result) (loop .queue) (loop .openers) (loop .labels) (loop .out) (loop .left) (loop .inv) (stands (args .p) (args .queue .now) (args .openers .now) (args .labels .now)) (begun .ensures .same (args .text .now) (args .queue .now) (args .openers .now) (args .labels .now) (length (args .labels .now)) (viewed (args .m) (args .line .now))) (omega (arith, loop-test .left))
+    turns-last (args .text .now) (args .line .now) (args .m) (args .reading) (args .queue .now) (args .openers .now) (args .labels .now) (args .p) (loop .queue) (loop .openers) (loop .labels) (loop .out) (loop .left) (loop .inv) (omega (arith, loop-test .left))
 
 pub read-line-spec : {M : Type 1} → statement M
 read-line-spec =
@@ -115,7 +103,6 @@ read-line-spec =
     (tie.spec
     Inv-loop
     μ-loop
-    begun-requires
     loop-holds
     over-requires
     same-length

@@ -98,7 +98,7 @@ returns-2 c rules =
     let place-at = c .before .place-at in
     let refusing = c .refusing in
     let is = c .before .before .enum-told2 in
-    as-brace (sheetOf rules (args .text .now) (args .labels .now)) (args .m) (args .line .now) (args .h) (args .p) (args .queue .now) (args .openers .now) (args .labels .now) (refusing .result) (pre .1 .0 .labels) (place-at .result) (place-at .ensures) (refusing .ensures) (args .role) (is .given .1)
+    as-brace rules (args .text .now) (args .m) (args .line .now) (args .h) (args .p) (args .queue .now) (args .openers .now) (args .labels .now) (refusing .result) (pre .1 .0 .labels) (place-at .result) (place-at .ensures) (refusing .ensures) (args .role) (is .given .1)
 
 same-length-2 : tie.Need-same-length-2
 same-length-2 c = search needs

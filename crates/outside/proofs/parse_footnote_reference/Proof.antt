@@ -6,7 +6,7 @@ use borrow.Author.Needs.{needs}
 use Rattle.lex.specs.declared.lex.Cursor.{Cursor}
 use Rattle.lex.specs.Lexer.{nextOf}
 use Rattle.reading.specs.Machine.{Sheet}
-use Rattle.reading.specs.Reading.{sheet}
+use Rattle.reading.specs.Reading.{unasked}
 use Rattle.reading.specs.Tokens.{is-caret as caret-role}
 use Rattle.rooms.specs.Standing.{viewed, moved as movedTo}
 use Rattle.outside.proofs.Caret.{peek-ready, caret-none, caret-no, caret-yes, caret-within, caret-ready}
@@ -16,7 +16,7 @@ use Rattle.outside.proofs.parse_footnote_reference.Tie as tie
 
 -- some sheet: what is asked is of any
 abbrev any : Sheet
-any = sheet [] 0 0
+any = unasked [] 0 0
 
 peek-token-requires : tie.Need-peek-token-requires
 peek-token-requires c κs = search needs

@@ -183,8 +183,8 @@ r = Value.rVal record {
 }
 
 abbrev pub xs : List.List Syntax.Ty
-xs = Syntax.tyInt Syntax.w64 ∷ Syntax.tyArray (Syntax.tyInt Syntax.w8) 256 ∷ y·24 ∷ Syntax.tyInt Syntax.w64 ∷ Syntax.tyInt Syntax.w64 ∷ y·6 ∷ Syntax.tyInt Syntax.w64 ∷
-    Syntax.tyArray (Syntax.tyInt Syntax.w8) 256 ∷ Syntax.tyBool ∷ y·7 ∷ y·19 ∷ y·7 ∷ y·19 ∷ y·8 ∷ y·20 ∷ y·9 ∷ y·7 ∷ y·19 ∷ []
+xs = Syntax.tyInt Syntax.w64 ∷ Syntax.tyArray (Syntax.tyInt Syntax.w8) 256 ∷ y·24 ∷ Syntax.tyInt Syntax.w64 ∷ Syntax.tyInt Syntax.w64 ∷ y·6 ∷ Syntax.tyArray (Syntax.tyInt
+    Syntax.w8) 256 ∷ Syntax.tyBool ∷ y·7 ∷ y·19 ∷ y·7 ∷ y·19 ∷ y·8 ∷ y·20 ∷ y·9 ∷ y·7 ∷ y·19 ∷ []
 
 abbrev pub m : Nat.ℕ
 m = 5
@@ -247,30 +247,29 @@ r·3 = Value.rVal record {
   of-mem = Local.whole-mem 𝓤 H A W (Declared.row Line.the-type);
 }
 
-abbrev pub ps·4 : List.List (Kinds.PK 5)
-ps·4 = ShrSlice.pShrS c·0 0 tt ∷ Num.pNum Syntax.w64 ∷ Num.pNum Syntax.w64 ∷ Num.pNum Syntax.w32 ∷ (Value.pVal record {
+abbrev pub ps·4 : List.List (Kinds.PK 6)
+ps·4 = ShrSlice.pShrS c·0 0 tt ∷ ShrSlice.pShrS Kept′.row 1 tt ∷ Num.pNum Syntax.w64 ∷ Num.pNum Syntax.w32 ∷ (Value.pVal record {
   ty = Declared.row Parser.the-type;
-  one = Path'.refl;
-  val =
-      Laws''.val Parser.the-type Laws'.the-laws;
+  one =
+      Path'.refl;
+  val = Laws''.val Parser.the-type Laws'.the-laws;
   tells = Laws''.tells Parser.the-type Laws'.the-laws;
   still = Laws''.still Parser.the-type Laws'.the-copy Exit.yes;
-  row = Rows'.whole
-      (Declared.row Parser.the-type);
+  row = Rows'.whole (Declared.row Parser.the-type);
   rd = λ x. x;
   mk = λ x. x;
 } λ M 𝓤 H A W. record {
   copies = Laws''.copy Parser.the-type Laws'.the-copy 𝓤 H A W;
-  lawful = Laws''.lawful
-      Parser.the-type Laws'.the-laws 𝓤 H A W;
+  lawful =
+      Laws''.lawful Parser.the-type Laws'.the-laws 𝓤 H A W;
   makes = Laws''.makes Parser.the-type Laws'.the-plain 𝓤 H A;
-  in-mem = Local.mem-whole 𝓤 H A W (Declared.row Parser.the-type);
-  of-mem =
-      Local.whole-mem 𝓤 H A W (Declared.row Parser.the-type);
-}) ∷ MutSlice.pMutS c·1 1 tt ∷ MutSlice.pMutS c·1 2 tt ∷ MutSlice.pMutS c·0 3 tt ∷ ShrRef.pShr (Array'.Array c·0 256) 4
-    tt ∷ []
+  in-mem = Local.mem-whole 𝓤 H A W (Declared.row
+      Parser.the-type);
+  of-mem = Local.whole-mem 𝓤 H A W (Declared.row Parser.the-type);
+}) ∷ MutSlice.pMutS c·1 2 tt ∷ MutSlice.pMutS c·1 3 tt ∷ MutSlice.pMutS c·0 4 tt ∷ ShrRef.pShr
+    (Array'.Array c·0 256) 5 tt ∷ []
 
-abbrev pub r·4 : Kinds.RK 5
+abbrev pub r·4 : Kinds.RK 6
 r·4 = Value.rVal record {
   ty = Declared.row Parser.the-type;
   one = Path'.refl;
@@ -333,17 +332,16 @@ r·5 = Value.rVal record {
 abbrev pub hs : List.List Syntax.Home
 hs = Syntax.valueLocal ∷ Syntax.valueLocal ∷ Syntax.valueLocal ∷ Syntax.valueLocal ∷ Syntax.valueLocal ∷ Syntax.valueLocal ∷ Syntax.valueLocal ∷ Syntax.valueLocal ∷
     Syntax.memorySlot ∷ Syntax.valueLocal ∷ Syntax.valueLocal ∷ Syntax.valueLocal ∷ Syntax.valueLocal ∷ Syntax.valueLocal ∷ Syntax.valueLocal ∷ Syntax.valueLocal ∷
-    Syntax.valueLocal ∷ Syntax.valueLocal ∷ Syntax.valueLocal ∷ Syntax.valueLocal ∷ Syntax.valueLocal ∷ Syntax.valueLocal ∷ Syntax.valueLocal ∷ Syntax.valueLocal ∷
-    Syntax.valueLocal ∷ []
+    Syntax.valueLocal ∷ Syntax.valueLocal ∷ Syntax.valueLocal ∷ Syntax.valueLocal ∷ Syntax.valueLocal ∷ Syntax.valueLocal ∷ Syntax.valueLocal ∷ Syntax.valueLocal ∷ []
 
 abbrev b0 : Syntax.Body
 b0 = Syntax.call "records::line_count" (Syntax.copy (Syntax.place 2 []) ∷ []) (Syntax.place 7 [])
 
 abbrev b1 : Syntax.Body
-b1 = Syntax.call "classes::table::classes" [] (Syntax.place 14 [])
+b1 = Syntax.call "classes::table::classes" [] (Syntax.place 13 [])
 
 abbrev b2 : Syntax.Body
-b2 = Syntax.assign (Syntax.place 8 []) (Syntax.rvOpd (Syntax.copy (Syntax.place 14 [])))
+b2 = Syntax.assign (Syntax.place 8 []) (Syntax.rvOpd (Syntax.copy (Syntax.place 13 [])))
 
 abbrev b3 : Syntax.Body
 b3 = Syntax.call "inline::fresh" [] (Syntax.place 9 [])
@@ -355,7 +353,7 @@ abbrev b5 : Syntax.Body
 b5 = Syntax.assign (Syntax.place 11 []) (Syntax.rvOpd (Syntax.int Syntax.w64 0))
 
 abbrev b6 : Syntax.Body
-b6 = Syntax.assign (Syntax.place 15 []) (Syntax.op2 (Syntax.lt Syntax.unsigned) (Syntax.copy (Syntax.place 11 [])) (Syntax.copy (Syntax.place 7 [])))
+b6 = Syntax.assign (Syntax.place 14 []) (Syntax.op2 (Syntax.lt Syntax.unsigned) (Syntax.copy (Syntax.place 11 [])) (Syntax.copy (Syntax.place 7 [])))
 
 abbrev b7 : Syntax.Body
 b7 = Syntax.skip
@@ -364,139 +362,133 @@ abbrev b8 : Syntax.Body
 b8 = Syntax.exit 1
 
 abbrev b9 : Syntax.Body
-b9 = Syntax.cond (Syntax.copy (Syntax.place 15 [])) b7 b8
+b9 = Syntax.cond (Syntax.copy (Syntax.place 14 [])) b7 b8
 
 abbrev b10 : Syntax.Body
 b10 = Syntax.call "records::line_at" (Syntax.copy (Syntax.place 2 []) ∷ Syntax.copy (Syntax.place 11 []) ∷ []) (Syntax.place 12 [])
 
 abbrev b11 : Syntax.Body
-b11 = Syntax.assign (Syntax.place 13 []) (Syntax.rvOpd (Syntax.copy (Syntax.place 12 (Syntax.field 0 ∷ []))))
+b11 = Syntax.assign (Syntax.place 10 []) (Syntax.rvOpd (Syntax.copy (Syntax.place 12 (Syntax.field 1 ∷ []))))
 
 abbrev b12 : Syntax.Body
-b12 = Syntax.assign (Syntax.place 10 []) (Syntax.rvOpd (Syntax.copy (Syntax.place 12 (Syntax.field 1 ∷ []))))
+b12 = Syntax.assign (Syntax.place 15 []) (Syntax.addrOf (Syntax.place 4 (Syntax.field 0 ∷ Syntax.deref (Syntax.tyInt Syntax.w32) ∷ [])))
 
 abbrev b13 : Syntax.Body
-b13 = Syntax.assign (Syntax.place 16 []) (Syntax.addrOf (Syntax.place 4 (Syntax.field 0 ∷ Syntax.deref (Syntax.tyInt Syntax.w32) ∷ [])))
+b13 = Syntax.assign (Syntax.place 16 []) (Syntax.aggregate (Syntax.copy (Syntax.place 15 []) ∷ Syntax.copy (Syntax.place 4 (Syntax.field 1 ∷ [])) ∷ []))
 
 abbrev b14 : Syntax.Body
-b14 = Syntax.assign (Syntax.place 17 []) (Syntax.aggregate (Syntax.copy (Syntax.place 16 []) ∷ Syntax.copy (Syntax.place 4 (Syntax.field 1 ∷ [])) ∷ []))
+b14 = Syntax.assign (Syntax.place 17 []) (Syntax.addrOf (Syntax.place 5 (Syntax.field 0 ∷ Syntax.deref (Syntax.tyInt Syntax.w32) ∷ [])))
 
 abbrev b15 : Syntax.Body
-b15 = Syntax.assign (Syntax.place 18 []) (Syntax.addrOf (Syntax.place 5 (Syntax.field 0 ∷ Syntax.deref (Syntax.tyInt Syntax.w32) ∷ [])))
+b15 = Syntax.assign (Syntax.place 18 []) (Syntax.aggregate (Syntax.copy (Syntax.place 17 []) ∷ Syntax.copy (Syntax.place 5 (Syntax.field 1 ∷ [])) ∷ []))
 
 abbrev b16 : Syntax.Body
-b16 = Syntax.assign (Syntax.place 19 []) (Syntax.aggregate (Syntax.copy (Syntax.place 18 []) ∷ Syntax.copy (Syntax.place 5 (Syntax.field 1 ∷ [])) ∷ []))
+b16 = Syntax.assign (Syntax.place 19 []) (Syntax.addrOf (Syntax.place 6 (Syntax.field 0 ∷ Syntax.deref (Syntax.tyInt Syntax.w8) ∷ [])))
 
 abbrev b17 : Syntax.Body
-b17 = Syntax.assign (Syntax.place 20 []) (Syntax.addrOf (Syntax.place 6 (Syntax.field 0 ∷ Syntax.deref (Syntax.tyInt Syntax.w8) ∷ [])))
+b17 = Syntax.assign (Syntax.place 20 []) (Syntax.aggregate (Syntax.copy (Syntax.place 19 []) ∷ Syntax.copy (Syntax.place 6 (Syntax.field 1 ∷ [])) ∷ []))
 
 abbrev b18 : Syntax.Body
-b18 = Syntax.assign (Syntax.place 21 []) (Syntax.aggregate (Syntax.copy (Syntax.place 20 []) ∷ Syntax.copy (Syntax.place 6 (Syntax.field 1 ∷ [])) ∷ []))
+b18 = Syntax.assign (Syntax.place 21 []) (Syntax.addrOf (Syntax.place 8 []))
 
 abbrev b19 : Syntax.Body
-b19 = Syntax.assign (Syntax.place 22 []) (Syntax.addrOf (Syntax.place 8 []))
-
-abbrev b20 : Syntax.Body
-b20 = Syntax.call "inline::feed_line" (Syntax.copy (Syntax.place 1 []) ∷ Syntax.copy (Syntax.place 13 []) ∷ Syntax.copy (Syntax.place 10 []) ∷ Syntax.copy (Syntax.place 3 []) ∷
-    Syntax.copy (Syntax.place 9 []) ∷ Syntax.copy (Syntax.place 17 []) ∷ Syntax.copy (Syntax.place 19 []) ∷ Syntax.copy (Syntax.place 21 []) ∷ Syntax.copy (Syntax.place 22 []) ∷
+b19 = Syntax.call "records::parse_line" (Syntax.copy (Syntax.place 1 []) ∷ Syntax.copy (Syntax.place 2 []) ∷ Syntax.copy (Syntax.place 11 []) ∷ Syntax.copy (Syntax.place 3 []) ∷
+    Syntax.copy (Syntax.place 9 []) ∷ Syntax.copy (Syntax.place 16 []) ∷ Syntax.copy (Syntax.place 18 []) ∷ Syntax.copy (Syntax.place 20 []) ∷ Syntax.copy (Syntax.place 21 []) ∷
     []) (Syntax.place 9 [])
 
+abbrev b20 : Syntax.Body
+b20 = Syntax.assign (Syntax.place 11 []) (Syntax.op2 (Syntax.add Syntax.unsigned) (Syntax.copy (Syntax.place 11 [])) (Syntax.int Syntax.w64 1))
+
 abbrev b21 : Syntax.Body
-b21 = Syntax.assign (Syntax.place 11 []) (Syntax.op2 (Syntax.add Syntax.unsigned) (Syntax.copy (Syntax.place 11 [])) (Syntax.int Syntax.w64 1))
+b21 = Syntax.seq b19 b20
 
 abbrev b22 : Syntax.Body
-b22 = Syntax.seq b20 b21
+b22 = Syntax.seq b18 b21
 
 abbrev b23 : Syntax.Body
-b23 = Syntax.seq b19 b22
+b23 = Syntax.seq b17 b22
 
 abbrev b24 : Syntax.Body
-b24 = Syntax.seq b18 b23
+b24 = Syntax.seq b16 b23
 
 abbrev b25 : Syntax.Body
-b25 = Syntax.seq b17 b24
+b25 = Syntax.seq b15 b24
 
 abbrev b26 : Syntax.Body
-b26 = Syntax.seq b16 b25
+b26 = Syntax.seq b14 b25
 
 abbrev b27 : Syntax.Body
-b27 = Syntax.seq b15 b26
+b27 = Syntax.seq b13 b26
 
 abbrev b28 : Syntax.Body
-b28 = Syntax.seq b14 b27
+b28 = Syntax.seq b12 b27
 
 abbrev b29 : Syntax.Body
-b29 = Syntax.seq b13 b28
+b29 = Syntax.seq b11 b28
 
 abbrev b30 : Syntax.Body
-b30 = Syntax.seq b12 b29
+b30 = Syntax.seq b10 b29
 
 abbrev b31 : Syntax.Body
-b31 = Syntax.seq b11 b30
+b31 = Syntax.seq b9 b30
 
 abbrev b32 : Syntax.Body
-b32 = Syntax.seq b10 b31
+b32 = Syntax.seq b6 b31
 
 abbrev b33 : Syntax.Body
-b33 = Syntax.seq b9 b32
+b33 = Syntax.loop b32
 
 abbrev b34 : Syntax.Body
-b34 = Syntax.seq b6 b33
+b34 = Syntax.block b33
 
 abbrev b35 : Syntax.Body
-b35 = Syntax.loop b34
+b35 = Syntax.assign (Syntax.place 22 []) (Syntax.addrOf (Syntax.place 4 (Syntax.field 0 ∷ Syntax.deref (Syntax.tyInt Syntax.w32) ∷ [])))
 
 abbrev b36 : Syntax.Body
-b36 = Syntax.block b35
+b36 = Syntax.assign (Syntax.place 23 []) (Syntax.aggregate (Syntax.copy (Syntax.place 22 []) ∷ Syntax.copy (Syntax.place 4 (Syntax.field 1 ∷ [])) ∷ []))
 
 abbrev b37 : Syntax.Body
-b37 = Syntax.assign (Syntax.place 23 []) (Syntax.addrOf (Syntax.place 4 (Syntax.field 0 ∷ Syntax.deref (Syntax.tyInt Syntax.w32) ∷ [])))
+b37 = Syntax.call "inline::finish" (Syntax.copy (Syntax.place 10 []) ∷ Syntax.copy (Syntax.place 9 []) ∷ Syntax.copy (Syntax.place 23 []) ∷ []) (Syntax.place 0 [])
 
 abbrev b38 : Syntax.Body
-b38 = Syntax.assign (Syntax.place 24 []) (Syntax.aggregate (Syntax.copy (Syntax.place 23 []) ∷ Syntax.copy (Syntax.place 4 (Syntax.field 1 ∷ [])) ∷ []))
+b38 = Syntax.return
 
 abbrev b39 : Syntax.Body
-b39 = Syntax.call "inline::finish" (Syntax.copy (Syntax.place 10 []) ∷ Syntax.copy (Syntax.place 9 []) ∷ Syntax.copy (Syntax.place 24 []) ∷ []) (Syntax.place 0 [])
+b39 = Syntax.seq b37 b38
 
 abbrev b40 : Syntax.Body
-b40 = Syntax.return
+b40 = Syntax.seq b36 b39
 
 abbrev b41 : Syntax.Body
-b41 = Syntax.seq b39 b40
+b41 = Syntax.seq b35 b40
 
 abbrev b42 : Syntax.Body
-b42 = Syntax.seq b38 b41
+b42 = Syntax.seq b34 b41
 
 abbrev b43 : Syntax.Body
-b43 = Syntax.seq b37 b42
+b43 = Syntax.seq b5 b42
 
 abbrev b44 : Syntax.Body
-b44 = Syntax.seq b36 b43
+b44 = Syntax.seq b4 b43
 
 abbrev b45 : Syntax.Body
-b45 = Syntax.seq b5 b44
+b45 = Syntax.seq b3 b44
 
 abbrev b46 : Syntax.Body
-b46 = Syntax.seq b4 b45
+b46 = Syntax.seq b2 b45
 
 abbrev b47 : Syntax.Body
-b47 = Syntax.seq b3 b46
+b47 = Syntax.seq b1 b46
 
 abbrev b48 : Syntax.Body
-b48 = Syntax.seq b2 b47
-
-abbrev b49 : Syntax.Body
-b49 = Syntax.seq b1 b48
-
-abbrev b50 : Syntax.Body
-b50 = Syntax.seq b0 b49
+b48 = Syntax.seq b0 b47
 
 abbrev pub body : Syntax.Body
-body = b50
+body = b48
 
 abbrev pub Claims : Type 1
 Claims = Kinds.In 1 ps·0 × Kinds.Out 1 ps·0 r·0 × Kinds.In 0 ps·1 × Kinds.Out 0 ps·1 r·1 × Kinds.In 0 ps·2 × Kinds.Out 0 ps·2 r·2 × Kinds.In 1 ps·3 × Kinds.Out 1 ps·3 r·3 ×
-    Kinds.In 5 ps·4 × Kinds.Out 5 ps·4 r·4 × Kinds.In 1 ps·5 × Kinds.Out 1 ps·5 r·5
+    Kinds.In 6 ps·4 × Kinds.Out 6 ps·4 r·4 × Kinds.In 1 ps·5 × Kinds.Out 1 ps·5 r·5
 
 abbrev pub e0·0 : Row.Entry
 e0·0 = (0, Rows'.any-gone y·24)
@@ -538,40 +530,37 @@ abbrev pub e12·0 : Row.Entry
 e12·0 = (12, Rows'.any-gone y·6)
 
 abbrev pub e13·0 : Row.Entry
-e13·0 = (13, Rows'.any-gone (Syntax.tyInt Syntax.w64))
+e13·0 = (13, Rows'.any-gone (Syntax.tyArray (Syntax.tyInt Syntax.w8) 256))
 
 abbrev pub e14·0 : Row.Entry
-e14·0 = (14, Rows'.any-gone (Syntax.tyArray (Syntax.tyInt Syntax.w8) 256))
+e14·0 = (14, Rows'.any-gone Syntax.tyBool)
 
 abbrev pub e15·0 : Row.Entry
-e15·0 = (15, Rows'.any-gone Syntax.tyBool)
+e15·0 = (15, Rows'.any-gone y·7)
 
 abbrev pub e16·0 : Row.Entry
-e16·0 = (16, Rows'.any-gone y·7)
+e16·0 = (16, Rows'.any-gone y·19)
 
 abbrev pub e17·0 : Row.Entry
-e17·0 = (17, Rows'.any-gone y·19)
+e17·0 = (17, Rows'.any-gone y·7)
 
 abbrev pub e18·0 : Row.Entry
-e18·0 = (18, Rows'.any-gone y·7)
+e18·0 = (18, Rows'.any-gone y·19)
 
 abbrev pub e19·0 : Row.Entry
-e19·0 = (19, Rows'.any-gone y·19)
+e19·0 = (19, Rows'.any-gone y·8)
 
 abbrev pub e20·0 : Row.Entry
-e20·0 = (20, Rows'.any-gone y·8)
+e20·0 = (20, Rows'.any-gone y·20)
 
 abbrev pub e21·0 : Row.Entry
-e21·0 = (21, Rows'.any-gone y·20)
+e21·0 = (21, Rows'.any-gone y·9)
 
 abbrev pub e22·0 : Row.Entry
-e22·0 = (22, Rows'.any-gone y·9)
+e22·0 = (22, Rows'.any-gone y·7)
 
 abbrev pub e23·0 : Row.Entry
-e23·0 = (23, Rows'.any-gone y·7)
-
-abbrev pub e24·0 : Row.Entry
-e24·0 = (24, Rows'.any-gone y·19)
+e23·0 = (23, Rows'.any-gone y·19)
 
 abbrev pub e0·1 : Row.Entry
 e0·1 = (0, Rows'.whole (Declared.row Parser.the-type))
@@ -582,8 +571,8 @@ e3·1 = (3, Rows'.any-gone (Syntax.tyInt Syntax.w32))
 abbrev pub e7·1 : Row.Entry
 e7·1 = (7, Rows'.sc-here (Row.sInt Syntax.w64))
 
-abbrev pub e14·1 : Row.Entry
-e14·1 = (14, Rows.arrF c·0 256 0)
+abbrev pub e13·1 : Row.Entry
+e13·1 = (13, Rows.arrF c·0 256 0)
 
 abbrev pub e8·1 : Row.Entry
 e8·1 = (8, Rows.arrF c·0 256 0)
@@ -597,74 +586,71 @@ e10·1 = (10, Rows'.sc-here (Row.sInt Syntax.w64))
 abbrev pub e11·1 : Row.Entry
 e11·1 = (11, Rows'.sc-here (Row.sInt Syntax.w64))
 
-abbrev pub e15·1 : Row.Entry
-e15·1 = (15, Rows'.sc-here Row.sBool)
+abbrev pub e14·1 : Row.Entry
+e14·1 = (14, Rows'.sc-here Row.sBool)
 
 abbrev pub e12·1 : Row.Entry
 e12·1 = (12, Rows'.whole (Declared.row Line.the-type))
 
-abbrev pub e13·1 : Row.Entry
-e13·1 = (13, Rows'.sc-here (Row.sInt Syntax.w64))
-
 abbrev pub e4·1 : Row.Entry
 e4·1 = (4, Relend.mslice-owed c·1 y·12 2 5 Row.off)
 
-abbrev pub e16·1 : Row.Entry
-e16·1 = (16, Relend.msptr c·1 y·7 5)
+abbrev pub e15·1 : Row.Entry
+e15·1 = (15, Relend.msptr c·1 y·7 5)
 
-abbrev pub e17·1 : Row.Entry
-e17·1 = (17, Mut.mslice c·1 y·7 5)
+abbrev pub e16·1 : Row.Entry
+e16·1 = (16, Mut.mslice c·1 y·7 5)
 
 abbrev pub e5·1 : Row.Entry
 e5·1 = (5, Relend.mslice-owed c·1 y·13 3 6 Row.off)
 
-abbrev pub e18·1 : Row.Entry
-e18·1 = (18, Relend.msptr c·1 y·7 6)
+abbrev pub e17·1 : Row.Entry
+e17·1 = (17, Relend.msptr c·1 y·7 6)
 
-abbrev pub e19·1 : Row.Entry
-e19·1 = (19, Mut.mslice c·1 y·7 6)
+abbrev pub e18·1 : Row.Entry
+e18·1 = (18, Mut.mslice c·1 y·7 6)
 
 abbrev pub e6·1 : Row.Entry
 e6·1 = (6, Relend.mslice-owed c·0 y·14 4 7 Row.off)
 
-abbrev pub e20·1 : Row.Entry
-e20·1 = (20, Relend.msptr c·0 y·8 7)
+abbrev pub e19·1 : Row.Entry
+e19·1 = (19, Relend.msptr c·0 y·8 7)
 
-abbrev pub e21·1 : Row.Entry
-e21·1 = (21, Mut.mslice c·0 y·8 7)
+abbrev pub e20·1 : Row.Entry
+e20·1 = (20, Mut.mslice c·0 y·8 7)
 
 abbrev pub e8·2 : Row.Entry
 e8·2 = (8, Rows'.sc-shr (Rows.arrF c·0 256 0) (Array'.Array c·0 256) (λ x. x) 8)
 
-abbrev pub e22·1 : Row.Entry
-e22·1 = (22, Rows'.sref (Array'.Array c·0 256) y·9 8)
+abbrev pub e21·1 : Row.Entry
+e21·1 = (21, Rows'.sref (Array'.Array c·0 256) y·9 8)
 
-abbrev pub e17·2 : Row.Entry
-e17·2 = (17, Mut.msleft c·1 y·7)
+abbrev pub e16·2 : Row.Entry
+e16·2 = (16, Mut.msleft c·1 y·7)
 
-abbrev pub e19·2 : Row.Entry
-e19·2 = (19, Mut.msleft c·1 y·7)
+abbrev pub e18·2 : Row.Entry
+e18·2 = (18, Mut.msleft c·1 y·7)
 
-abbrev pub e21·2 : Row.Entry
-e21·2 = (21, Mut.msleft c·0 y·8)
+abbrev pub e20·2 : Row.Entry
+e20·2 = (20, Mut.msleft c·0 y·8)
 
 abbrev pub e4·2 : Row.Entry
 e4·2 = (4, Relend.mslice-owed c·1 y·12 2 9 Row.off)
 
+abbrev pub e22·1 : Row.Entry
+e22·1 = (22, Relend.msptr c·1 y·7 9)
+
 abbrev pub e23·1 : Row.Entry
-e23·1 = (23, Relend.msptr c·1 y·7 9)
+e23·1 = (23, Mut.mslice c·1 y·7 9)
 
-abbrev pub e24·1 : Row.Entry
-e24·1 = (24, Mut.mslice c·1 y·7 9)
-
-abbrev pub e24·2 : Row.Entry
-e24·2 = (24, Mut.msleft c·1 y·7)
+abbrev pub e23·2 : Row.Entry
+e23·2 = (23, Mut.msleft c·1 y·7)
 
 abbrev pub t0 : List.List Row.Entry
 t0 = e0·0 ∷ e1·0 ∷ e2·0 ∷ e3·0 ∷ e4·0 ∷ e5·0 ∷ e6·0 ∷ e7·0 ∷ e8·0 ∷ e9·0 ∷ e10·0 ∷ e11·0 ∷ e12·0 ∷ e13·0 ∷ e14·0 ∷ e15·0 ∷ []
 
 abbrev pub t1 : List.List Row.Entry
-t1 = e16·0 ∷ e17·0 ∷ e18·0 ∷ e19·0 ∷ e20·0 ∷ e21·0 ∷ e22·0 ∷ e23·0 ∷ e24·0 ∷ []
+t1 = e16·0 ∷ e17·0 ∷ e18·0 ∷ e19·0 ∷ e20·0 ∷ e21·0 ∷ e22·0 ∷ e23·0 ∷ []
 
 abbrev pub t2 : List.List Row.Entry
 t2 = e0·1 ∷ e1·0 ∷ e2·0 ∷ e3·1 ∷ e4·0 ∷ e5·0 ∷ e6·0 ∷ e7·0 ∷ e8·0 ∷ e9·0 ∷ e10·0 ∷ e11·0 ∷ e12·0 ∷ e13·0 ∷ e14·0 ∷ e15·0 ∷ []
@@ -673,10 +659,10 @@ abbrev pub t3 : List.List Row.Entry
 t3 = e0·0 ∷ e1·0 ∷ e2·0 ∷ e3·0 ∷ e4·0 ∷ e5·0 ∷ e6·0 ∷ e7·1 ∷ e8·0 ∷ e9·0 ∷ e10·0 ∷ e11·0 ∷ e12·0 ∷ e13·0 ∷ e14·0 ∷ e15·0 ∷ []
 
 abbrev pub t4 : List.List Row.Entry
-t4 = e0·0 ∷ e1·0 ∷ e2·0 ∷ e3·0 ∷ e4·0 ∷ e5·0 ∷ e6·0 ∷ e7·1 ∷ e8·0 ∷ e9·0 ∷ e10·0 ∷ e11·0 ∷ e12·0 ∷ e13·0 ∷ e14·1 ∷ e15·0 ∷ []
+t4 = e0·0 ∷ e1·0 ∷ e2·0 ∷ e3·0 ∷ e4·0 ∷ e5·0 ∷ e6·0 ∷ e7·1 ∷ e8·0 ∷ e9·0 ∷ e10·0 ∷ e11·0 ∷ e12·0 ∷ e13·1 ∷ e14·0 ∷ e15·0 ∷ []
 
 abbrev pub t5 : List.List Row.Entry
-t5 = e0·0 ∷ e1·0 ∷ e2·0 ∷ e3·0 ∷ e4·0 ∷ e5·0 ∷ e6·0 ∷ e7·1 ∷ e8·1 ∷ e9·0 ∷ e10·0 ∷ e11·0 ∷ e12·0 ∷ e13·0 ∷ e14·1 ∷ e15·0 ∷ []
+t5 = e0·0 ∷ e1·0 ∷ e2·0 ∷ e3·0 ∷ e4·0 ∷ e5·0 ∷ e6·0 ∷ e7·1 ∷ e8·1 ∷ e9·0 ∷ e10·0 ∷ e11·0 ∷ e12·0 ∷ e13·1 ∷ e14·0 ∷ e15·0 ∷ []
 
 abbrev pub t6 : List.List Row.Entry
 t6 = e0·0 ∷ e1·0 ∷ e2·0 ∷ e3·0 ∷ e4·0 ∷ e5·0 ∷ e6·0 ∷ e7·1 ∷ e8·1 ∷ e9·0 ∷ e10·0 ∷ e11·0 ∷ e12·0 ∷ e13·0 ∷ e14·0 ∷ e15·0 ∷ []
@@ -694,112 +680,106 @@ abbrev pub t10 : List.List Row.Entry
 t10 = e0·0 ∷ e1·0 ∷ e2·0 ∷ e3·0 ∷ e4·0 ∷ e5·0 ∷ e6·0 ∷ e7·1 ∷ e8·0 ∷ e9·1 ∷ e10·1 ∷ e11·1 ∷ e12·0 ∷ e13·0 ∷ e14·0 ∷ e15·0 ∷ []
 
 abbrev pub t11 : List.List Row.Entry
-t11 = e0·0 ∷ e1·0 ∷ e2·0 ∷ e3·0 ∷ e4·0 ∷ e5·0 ∷ e6·0 ∷ e7·1 ∷ e8·1 ∷ e9·1 ∷ e10·1 ∷ e11·1 ∷ e12·0 ∷ e13·0 ∷ e14·0 ∷ e15·1 ∷ []
+t11 = e0·0 ∷ e1·0 ∷ e2·0 ∷ e3·0 ∷ e4·0 ∷ e5·0 ∷ e6·0 ∷ e7·1 ∷ e8·1 ∷ e9·1 ∷ e10·1 ∷ e11·1 ∷ e12·0 ∷ e13·0 ∷ e14·1 ∷ e15·0 ∷ []
 
 abbrev pub t12 : List.List Row.Entry
 t12 = e0·0 ∷ e1·0 ∷ e2·0 ∷ e3·0 ∷ e4·0 ∷ e5·0 ∷ e6·0 ∷ e7·1 ∷ e8·1 ∷ e9·1 ∷ e10·0 ∷ e11·1 ∷ e12·0 ∷ e13·0 ∷ e14·0 ∷ e15·0 ∷ []
 
 abbrev pub t13 : List.List Row.Entry
-t13 = e0·0 ∷ e1·0 ∷ e2·0 ∷ e3·0 ∷ e4·0 ∷ e5·0 ∷ e6·0 ∷ e7·1 ∷ e8·1 ∷ e9·1 ∷ e10·0 ∷ e11·1 ∷ e12·0 ∷ e13·0 ∷ e14·0 ∷ e15·1 ∷ []
+t13 = e0·0 ∷ e1·0 ∷ e2·0 ∷ e3·0 ∷ e4·0 ∷ e5·0 ∷ e6·0 ∷ e7·1 ∷ e8·1 ∷ e9·1 ∷ e10·0 ∷ e11·1 ∷ e12·0 ∷ e13·0 ∷ e14·1 ∷ e15·0 ∷ []
 
 abbrev pub t14 : List.List Row.Entry
-t14 = e0·0 ∷ e1·0 ∷ e2·0 ∷ e3·0 ∷ e4·0 ∷ e5·0 ∷ e6·0 ∷ e7·1 ∷ e8·0 ∷ e9·1 ∷ e10·1 ∷ e11·1 ∷ e12·0 ∷ e13·0 ∷ e14·0 ∷ e15·1 ∷ []
+t14 = e0·0 ∷ e1·0 ∷ e2·0 ∷ e3·0 ∷ e4·0 ∷ e5·0 ∷ e6·0 ∷ e7·1 ∷ e8·0 ∷ e9·1 ∷ e10·1 ∷ e11·1 ∷ e12·0 ∷ e13·0 ∷ e14·1 ∷ e15·0 ∷ []
 
 abbrev pub t15 : List.List Row.Entry
 t15 = e0·0 ∷ e1·0 ∷ e2·0 ∷ e3·0 ∷ e4·0 ∷ e5·0 ∷ e6·0 ∷ e7·1 ∷ e8·1 ∷ e9·1 ∷ e10·0 ∷ e11·1 ∷ e12·1 ∷ e13·0 ∷ e14·0 ∷ e15·0 ∷ []
 
 abbrev pub t16 : List.List Row.Entry
-t16 = e0·0 ∷ e1·0 ∷ e2·0 ∷ e3·0 ∷ e4·0 ∷ e5·0 ∷ e6·0 ∷ e7·1 ∷ e8·1 ∷ e9·1 ∷ e10·0 ∷ e11·1 ∷ e12·1 ∷ e13·1 ∷ e14·0 ∷ e15·0 ∷ []
+t16 = e0·0 ∷ e1·0 ∷ e2·0 ∷ e3·0 ∷ e4·0 ∷ e5·0 ∷ e6·0 ∷ e7·1 ∷ e8·1 ∷ e9·1 ∷ e10·1 ∷ e11·1 ∷ e12·1 ∷ e13·0 ∷ e14·0 ∷ e15·0 ∷ []
 
 abbrev pub t17 : List.List Row.Entry
-t17 = e0·0 ∷ e1·0 ∷ e2·0 ∷ e3·0 ∷ e4·0 ∷ e5·0 ∷ e6·0 ∷ e7·1 ∷ e8·1 ∷ e9·1 ∷ e10·1 ∷ e11·1 ∷ e12·1 ∷ e13·1 ∷ e14·0 ∷ e15·0 ∷ []
+t17 = e0·0 ∷ e1·0 ∷ e2·0 ∷ e3·0 ∷ e4·1 ∷ e5·0 ∷ e6·0 ∷ e7·1 ∷ e8·1 ∷ e9·1 ∷ e10·1 ∷ e11·1 ∷ e12·0 ∷ e13·0 ∷ e14·0 ∷ e15·1 ∷ []
 
 abbrev pub t18 : List.List Row.Entry
-t18 = e0·0 ∷ e1·0 ∷ e2·0 ∷ e3·0 ∷ e4·0 ∷ e5·0 ∷ e6·0 ∷ e7·1 ∷ e8·1 ∷ e9·1 ∷ e10·1 ∷ e11·1 ∷ e12·0 ∷ e13·1 ∷ e14·0 ∷ e15·0 ∷ []
+t18 = e0·0 ∷ e1·0 ∷ e2·0 ∷ e3·0 ∷ e4·1 ∷ e5·0 ∷ e6·0 ∷ e7·1 ∷ e8·1 ∷ e9·1 ∷ e10·1 ∷ e11·1 ∷ e12·0 ∷ e13·0 ∷ e14·0 ∷ e15·0 ∷ []
 
 abbrev pub t19 : List.List Row.Entry
-t19 = e0·0 ∷ e1·0 ∷ e2·0 ∷ e3·0 ∷ e4·1 ∷ e5·0 ∷ e6·0 ∷ e7·1 ∷ e8·1 ∷ e9·1 ∷ e10·1 ∷ e11·1 ∷ e12·0 ∷ e13·1 ∷ e14·0 ∷ e15·0 ∷ []
+t19 = e16·1 ∷ e17·0 ∷ e18·0 ∷ e19·0 ∷ e20·0 ∷ e21·0 ∷ e22·0 ∷ e23·0 ∷ []
 
 abbrev pub t20 : List.List Row.Entry
-t20 = e16·1 ∷ e17·0 ∷ e18·0 ∷ e19·0 ∷ e20·0 ∷ e21·0 ∷ e22·0 ∷ e23·0 ∷ e24·0 ∷ []
+t20 = e0·0 ∷ e1·0 ∷ e2·0 ∷ e3·0 ∷ e4·1 ∷ e5·1 ∷ e6·0 ∷ e7·1 ∷ e8·1 ∷ e9·1 ∷ e10·1 ∷ e11·1 ∷ e12·0 ∷ e13·0 ∷ e14·0 ∷ e15·0 ∷ []
 
 abbrev pub t21 : List.List Row.Entry
-t21 = e16·0 ∷ e17·1 ∷ e18·0 ∷ e19·0 ∷ e20·0 ∷ e21·0 ∷ e22·0 ∷ e23·0 ∷ e24·0 ∷ []
+t21 = e16·1 ∷ e17·1 ∷ e18·0 ∷ e19·0 ∷ e20·0 ∷ e21·0 ∷ e22·0 ∷ e23·0 ∷ []
 
 abbrev pub t22 : List.List Row.Entry
-t22 = e0·0 ∷ e1·0 ∷ e2·0 ∷ e3·0 ∷ e4·1 ∷ e5·1 ∷ e6·0 ∷ e7·1 ∷ e8·1 ∷ e9·1 ∷ e10·1 ∷ e11·1 ∷ e12·0 ∷ e13·1 ∷ e14·0 ∷ e15·0 ∷ []
+t22 = e16·1 ∷ e17·0 ∷ e18·1 ∷ e19·0 ∷ e20·0 ∷ e21·0 ∷ e22·0 ∷ e23·0 ∷ []
 
 abbrev pub t23 : List.List Row.Entry
-t23 = e16·0 ∷ e17·1 ∷ e18·1 ∷ e19·0 ∷ e20·0 ∷ e21·0 ∷ e22·0 ∷ e23·0 ∷ e24·0 ∷ []
+t23 = e0·0 ∷ e1·0 ∷ e2·0 ∷ e3·0 ∷ e4·1 ∷ e5·1 ∷ e6·1 ∷ e7·1 ∷ e8·1 ∷ e9·1 ∷ e10·1 ∷ e11·1 ∷ e12·0 ∷ e13·0 ∷ e14·0 ∷ e15·0 ∷ []
 
 abbrev pub t24 : List.List Row.Entry
-t24 = e16·0 ∷ e17·1 ∷ e18·0 ∷ e19·1 ∷ e20·0 ∷ e21·0 ∷ e22·0 ∷ e23·0 ∷ e24·0 ∷ []
+t24 = e16·1 ∷ e17·0 ∷ e18·1 ∷ e19·1 ∷ e20·0 ∷ e21·0 ∷ e22·0 ∷ e23·0 ∷ []
 
 abbrev pub t25 : List.List Row.Entry
-t25 = e0·0 ∷ e1·0 ∷ e2·0 ∷ e3·0 ∷ e4·1 ∷ e5·1 ∷ e6·1 ∷ e7·1 ∷ e8·1 ∷ e9·1 ∷ e10·1 ∷ e11·1 ∷ e12·0 ∷ e13·1 ∷ e14·0 ∷ e15·0 ∷ []
+t25 = e16·1 ∷ e17·0 ∷ e18·1 ∷ e19·0 ∷ e20·1 ∷ e21·0 ∷ e22·0 ∷ e23·0 ∷ []
 
 abbrev pub t26 : List.List Row.Entry
-t26 = e16·0 ∷ e17·1 ∷ e18·0 ∷ e19·1 ∷ e20·1 ∷ e21·0 ∷ e22·0 ∷ e23·0 ∷ e24·0 ∷ []
+t26 = e0·0 ∷ e1·0 ∷ e2·0 ∷ e3·0 ∷ e4·1 ∷ e5·1 ∷ e6·1 ∷ e7·1 ∷ e8·2 ∷ e9·1 ∷ e10·1 ∷ e11·1 ∷ e12·0 ∷ e13·0 ∷ e14·0 ∷ e15·0 ∷ []
 
 abbrev pub t27 : List.List Row.Entry
-t27 = e16·0 ∷ e17·1 ∷ e18·0 ∷ e19·1 ∷ e20·0 ∷ e21·1 ∷ e22·0 ∷ e23·0 ∷ e24·0 ∷ []
+t27 = e16·1 ∷ e17·0 ∷ e18·1 ∷ e19·0 ∷ e20·1 ∷ e21·1 ∷ e22·0 ∷ e23·0 ∷ []
 
 abbrev pub t28 : List.List Row.Entry
-t28 = e0·0 ∷ e1·0 ∷ e2·0 ∷ e3·0 ∷ e4·1 ∷ e5·1 ∷ e6·1 ∷ e7·1 ∷ e8·2 ∷ e9·1 ∷ e10·1 ∷ e11·1 ∷ e12·0 ∷ e13·1 ∷ e14·0 ∷ e15·0 ∷ []
+t28 = e16·2 ∷ e17·0 ∷ e18·2 ∷ e19·0 ∷ e20·2 ∷ e21·1 ∷ e22·0 ∷ e23·0 ∷ []
 
 abbrev pub t29 : List.List Row.Entry
-t29 = e16·0 ∷ e17·1 ∷ e18·0 ∷ e19·1 ∷ e20·0 ∷ e21·1 ∷ e22·1 ∷ e23·0 ∷ e24·0 ∷ []
+t29 = e16·2 ∷ e17·0 ∷ e18·2 ∷ e19·0 ∷ e20·2 ∷ e21·0 ∷ e22·0 ∷ e23·0 ∷ []
 
 abbrev pub t30 : List.List Row.Entry
-t30 = e16·0 ∷ e17·2 ∷ e18·0 ∷ e19·2 ∷ e20·0 ∷ e21·2 ∷ e22·1 ∷ e23·0 ∷ e24·0 ∷ []
+t30 = e0·0 ∷ e1·0 ∷ e2·0 ∷ e3·0 ∷ e4·0 ∷ e5·1 ∷ e6·1 ∷ e7·1 ∷ e8·2 ∷ e9·1 ∷ e10·1 ∷ e11·1 ∷ e12·0 ∷ e13·0 ∷ e14·0 ∷ e15·0 ∷ []
 
 abbrev pub t31 : List.List Row.Entry
-t31 = e16·0 ∷ e17·2 ∷ e18·0 ∷ e19·2 ∷ e20·0 ∷ e21·2 ∷ e22·0 ∷ e23·0 ∷ e24·0 ∷ []
+t31 = e16·0 ∷ e17·0 ∷ e18·2 ∷ e19·0 ∷ e20·2 ∷ e21·0 ∷ e22·0 ∷ e23·0 ∷ []
 
 abbrev pub t32 : List.List Row.Entry
-t32 = e0·0 ∷ e1·0 ∷ e2·0 ∷ e3·0 ∷ e4·0 ∷ e5·1 ∷ e6·1 ∷ e7·1 ∷ e8·2 ∷ e9·1 ∷ e10·1 ∷ e11·1 ∷ e12·0 ∷ e13·1 ∷ e14·0 ∷ e15·0 ∷ []
+t32 = e0·0 ∷ e1·0 ∷ e2·0 ∷ e3·0 ∷ e4·0 ∷ e5·0 ∷ e6·1 ∷ e7·1 ∷ e8·2 ∷ e9·1 ∷ e10·1 ∷ e11·1 ∷ e12·0 ∷ e13·0 ∷ e14·0 ∷ e15·0 ∷ []
 
 abbrev pub t33 : List.List Row.Entry
-t33 = e16·0 ∷ e17·0 ∷ e18·0 ∷ e19·2 ∷ e20·0 ∷ e21·2 ∷ e22·0 ∷ e23·0 ∷ e24·0 ∷ []
+t33 = e16·0 ∷ e17·0 ∷ e18·0 ∷ e19·0 ∷ e20·2 ∷ e21·0 ∷ e22·0 ∷ e23·0 ∷ []
 
 abbrev pub t34 : List.List Row.Entry
-t34 = e0·0 ∷ e1·0 ∷ e2·0 ∷ e3·0 ∷ e4·0 ∷ e5·0 ∷ e6·1 ∷ e7·1 ∷ e8·2 ∷ e9·1 ∷ e10·1 ∷ e11·1 ∷ e12·0 ∷ e13·1 ∷ e14·0 ∷ e15·0 ∷ []
+t34 = e0·0 ∷ e1·0 ∷ e2·0 ∷ e3·0 ∷ e4·0 ∷ e5·0 ∷ e6·0 ∷ e7·1 ∷ e8·2 ∷ e9·1 ∷ e10·1 ∷ e11·1 ∷ e12·0 ∷ e13·0 ∷ e14·0 ∷ e15·0 ∷ []
 
 abbrev pub t35 : List.List Row.Entry
-t35 = e16·0 ∷ e17·0 ∷ e18·0 ∷ e19·0 ∷ e20·0 ∷ e21·2 ∷ e22·0 ∷ e23·0 ∷ e24·0 ∷ []
+t35 = e0·0 ∷ e1·0 ∷ e2·0 ∷ e3·0 ∷ e4·2 ∷ e5·0 ∷ e6·0 ∷ e7·1 ∷ e8·0 ∷ e9·1 ∷ e10·1 ∷ e11·1 ∷ e12·0 ∷ e13·0 ∷ e14·0 ∷ e15·0 ∷ []
 
 abbrev pub t36 : List.List Row.Entry
-t36 = e0·0 ∷ e1·0 ∷ e2·0 ∷ e3·0 ∷ e4·0 ∷ e5·0 ∷ e6·0 ∷ e7·1 ∷ e8·2 ∷ e9·1 ∷ e10·1 ∷ e11·1 ∷ e12·0 ∷ e13·1 ∷ e14·0 ∷ e15·0 ∷ []
+t36 = e16·0 ∷ e17·0 ∷ e18·0 ∷ e19·0 ∷ e20·0 ∷ e21·0 ∷ e22·1 ∷ e23·0 ∷ []
 
 abbrev pub t37 : List.List Row.Entry
-t37 = e0·0 ∷ e1·0 ∷ e2·0 ∷ e3·0 ∷ e4·2 ∷ e5·0 ∷ e6·0 ∷ e7·1 ∷ e8·0 ∷ e9·1 ∷ e10·1 ∷ e11·1 ∷ e12·0 ∷ e13·0 ∷ e14·0 ∷ e15·0 ∷ []
+t37 = e16·0 ∷ e17·0 ∷ e18·0 ∷ e19·0 ∷ e20·0 ∷ e21·0 ∷ e22·0 ∷ e23·1 ∷ []
 
 abbrev pub t38 : List.List Row.Entry
-t38 = e16·0 ∷ e17·0 ∷ e18·0 ∷ e19·0 ∷ e20·0 ∷ e21·0 ∷ e22·0 ∷ e23·1 ∷ e24·0 ∷ []
+t38 = e0·1 ∷ e1·0 ∷ e2·0 ∷ e3·0 ∷ e4·2 ∷ e5·0 ∷ e6·0 ∷ e7·1 ∷ e8·0 ∷ e9·1 ∷ e10·1 ∷ e11·1 ∷ e12·0 ∷ e13·0 ∷ e14·0 ∷ e15·0 ∷ []
 
 abbrev pub t39 : List.List Row.Entry
-t39 = e16·0 ∷ e17·0 ∷ e18·0 ∷ e19·0 ∷ e20·0 ∷ e21·0 ∷ e22·0 ∷ e23·0 ∷ e24·1 ∷ []
+t39 = e16·0 ∷ e17·0 ∷ e18·0 ∷ e19·0 ∷ e20·0 ∷ e21·0 ∷ e22·0 ∷ e23·2 ∷ []
 
 abbrev pub t40 : List.List Row.Entry
-t40 = e0·1 ∷ e1·0 ∷ e2·0 ∷ e3·0 ∷ e4·2 ∷ e5·0 ∷ e6·0 ∷ e7·1 ∷ e8·0 ∷ e9·1 ∷ e10·1 ∷ e11·1 ∷ e12·0 ∷ e13·0 ∷ e14·0 ∷ e15·0 ∷ []
+t40 = e0·1 ∷ e1·0 ∷ e2·0 ∷ e3·0 ∷ e4·2 ∷ e5·0 ∷ e6·0 ∷ e7·0 ∷ e8·0 ∷ e9·1 ∷ e10·1 ∷ e11·1 ∷ e12·0 ∷ e13·0 ∷ e14·0 ∷ e15·0 ∷ []
 
 abbrev pub t41 : List.List Row.Entry
-t41 = e16·0 ∷ e17·0 ∷ e18·0 ∷ e19·0 ∷ e20·0 ∷ e21·0 ∷ e22·0 ∷ e23·0 ∷ e24·2 ∷ []
+t41 = e0·1 ∷ e1·0 ∷ e2·0 ∷ e3·0 ∷ e4·2 ∷ e5·0 ∷ e6·0 ∷ e7·0 ∷ e8·0 ∷ e9·0 ∷ e10·1 ∷ e11·1 ∷ e12·0 ∷ e13·0 ∷ e14·0 ∷ e15·0 ∷ []
 
 abbrev pub t42 : List.List Row.Entry
-t42 = e0·1 ∷ e1·0 ∷ e2·0 ∷ e3·0 ∷ e4·2 ∷ e5·0 ∷ e6·0 ∷ e7·0 ∷ e8·0 ∷ e9·1 ∷ e10·1 ∷ e11·1 ∷ e12·0 ∷ e13·0 ∷ e14·0 ∷ e15·0 ∷ []
+t42 = e0·1 ∷ e1·0 ∷ e2·0 ∷ e3·0 ∷ e4·2 ∷ e5·0 ∷ e6·0 ∷ e7·0 ∷ e8·0 ∷ e9·0 ∷ e10·0 ∷ e11·1 ∷ e12·0 ∷ e13·0 ∷ e14·0 ∷ e15·0 ∷ []
 
 abbrev pub t43 : List.List Row.Entry
-t43 = e0·1 ∷ e1·0 ∷ e2·0 ∷ e3·0 ∷ e4·2 ∷ e5·0 ∷ e6·0 ∷ e7·0 ∷ e8·0 ∷ e9·0 ∷ e10·1 ∷ e11·1 ∷ e12·0 ∷ e13·0 ∷ e14·0 ∷ e15·0 ∷ []
+t43 = e0·1 ∷ e1·0 ∷ e2·0 ∷ e3·0 ∷ e4·2 ∷ e5·0 ∷ e6·0 ∷ e7·0 ∷ e8·0 ∷ e9·0 ∷ e10·0 ∷ e11·0 ∷ e12·0 ∷ e13·0 ∷ e14·0 ∷ e15·0 ∷ []
 
 abbrev pub t44 : List.List Row.Entry
-t44 = e0·1 ∷ e1·0 ∷ e2·0 ∷ e3·0 ∷ e4·2 ∷ e5·0 ∷ e6·0 ∷ e7·0 ∷ e8·0 ∷ e9·0 ∷ e10·0 ∷ e11·1 ∷ e12·0 ∷ e13·0 ∷ e14·0 ∷ e15·0 ∷ []
-
-abbrev pub t45 : List.List Row.Entry
-t45 = e0·1 ∷ e1·0 ∷ e2·0 ∷ e3·0 ∷ e4·2 ∷ e5·0 ∷ e6·0 ∷ e7·0 ∷ e8·0 ∷ e9·0 ∷ e10·0 ∷ e11·0 ∷ e12·0 ∷ e13·0 ∷ e14·0 ∷ e15·0 ∷ []
-
-abbrev pub t46 : List.List Row.Entry
-t46 = e0·1 ∷ e1·0 ∷ e2·0 ∷ e3·0 ∷ e4·0 ∷ e5·0 ∷ e6·0 ∷ e7·0 ∷ e8·0 ∷ e9·0 ∷ e10·0 ∷ e11·0 ∷ e12·0 ∷ e13·0 ∷ e14·0 ∷ e15·0 ∷ []
+t44 = e0·1 ∷ e1·0 ∷ e2·0 ∷ e3·0 ∷ e4·0 ∷ e5·0 ∷ e6·0 ∷ e7·0 ∷ e8·0 ∷ e9·0 ∷ e10·0 ∷ e11·0 ∷ e12·0 ∷ e13·0 ∷ e14·0 ∷ e15·0 ∷ []
 
 abbrev pub T0 : Row.Cx
 T0 = record { locals = List._++_ t0 t1; slots = [] }
@@ -849,71 +829,65 @@ T20 = record { locals = List._++_ t15 t1; slots = [] }
 abbrev pub T21 : Row.Cx
 T21 = record { locals = List._++_ t16 t1; slots = [] }
 
-abbrev pub T22 : Row.Cx
-T22 = record { locals = List._++_ t17 t1; slots = [] }
-
-abbrev pub T23 : Row.Cx
-T23 = record { locals = List._++_ t18 t1; slots = [] }
+abbrev pub T24 : Row.Cx
+T24 = record { locals = List._++_ t17 t1; slots = [] }
 
 abbrev pub T25 : Row.Cx
-T25 = record { locals = List._++_ t19 t20; slots = [] }
+T25 = record { locals = List._++_ t18 t19; slots = [] }
 
-abbrev pub T26 : Row.Cx
-T26 = record { locals = List._++_ t19 t21; slots = [] }
+abbrev pub T27 : Row.Cx
+T27 = record { locals = List._++_ t20 t21; slots = [] }
 
 abbrev pub T28 : Row.Cx
-T28 = record { locals = List._++_ t22 t23; slots = [] }
+T28 = record { locals = List._++_ t20 t22; slots = [] }
 
-abbrev pub T29 : Row.Cx
-T29 = record { locals = List._++_ t22 t24; slots = [] }
+abbrev pub T30 : Row.Cx
+T30 = record { locals = List._++_ t23 t24; slots = [] }
 
 abbrev pub T31 : Row.Cx
-T31 = record { locals = List._++_ t25 t26; slots = [] }
+T31 = record { locals = List._++_ t23 t25; slots = [] }
 
-abbrev pub T32 : Row.Cx
-T32 = record { locals = List._++_ t25 t27; slots = [] }
+abbrev pub T33 : Row.Cx
+T33 = record { locals = List._++_ t26 t27; slots = [] }
 
 abbrev pub T34 : Row.Cx
-T34 = record { locals = List._++_ t28 t29; slots = [] }
+T34 = record { locals = List._++_ t26 t28; slots = [] }
 
 abbrev pub T35 : Row.Cx
-T35 = record { locals = List._++_ t28 t30; slots = [] }
+T35 = record { locals = List._++_ t26 t29; slots = [] }
 
-abbrev pub T36 : Row.Cx
-T36 = record { locals = List._++_ t28 t31; slots = [] }
+abbrev pub T37 : Row.Cx
+T37 = record { locals = List._++_ t30 t31; slots = [] }
 
-abbrev pub T38 : Row.Cx
-T38 = record { locals = List._++_ t32 t33; slots = [] }
+abbrev pub T41 : Row.Cx
+T41 = record { locals = List._++_ t32 t33; slots = [] }
 
-abbrev pub T42 : Row.Cx
-T42 = record { locals = List._++_ t34 t35; slots = [] }
+abbrev pub T45 : Row.Cx
+T45 = record { locals = List._++_ t34 t1; slots = [] }
 
-abbrev pub T46 : Row.Cx
-T46 = record { locals = List._++_ t36 t1; slots = [] }
+abbrev pub T53 : Row.Cx
+T53 = record { locals = List._++_ t35 t36; slots = [] }
+
+abbrev pub T54 : Row.Cx
+T54 = record { locals = List._++_ t35 t37; slots = [] }
 
 abbrev pub T55 : Row.Cx
-T55 = record { locals = List._++_ t37 t38; slots = [] }
+T55 = record { locals = List._++_ t38 t39; slots = [] }
 
 abbrev pub T56 : Row.Cx
-T56 = record { locals = List._++_ t37 t39; slots = [] }
+T56 = record { locals = List._++_ t40 t39; slots = [] }
 
 abbrev pub T57 : Row.Cx
-T57 = record { locals = List._++_ t40 t41; slots = [] }
+T57 = record { locals = List._++_ t41 t39; slots = [] }
 
 abbrev pub T58 : Row.Cx
-T58 = record { locals = List._++_ t42 t41; slots = [] }
+T58 = record { locals = List._++_ t42 t39; slots = [] }
 
 abbrev pub T59 : Row.Cx
-T59 = record { locals = List._++_ t43 t41; slots = [] }
-
-abbrev pub T60 : Row.Cx
-T60 = record { locals = List._++_ t44 t41; slots = [] }
+T59 = record { locals = List._++_ t43 t39; slots = [] }
 
 abbrev pub T61 : Row.Cx
-T61 = record { locals = List._++_ t45 t41; slots = [] }
-
-abbrev pub T63 : Row.Cx
-T63 = record { locals = List._++_ t46 t1; slots = [] }
+T61 = record { locals = List._++_ t44 t1; slots = [] }
 
 abbrev pub O0 : Typed.Outs
 O0 = record { next = Option.none; exits = []; returns = Option.some T1 }
@@ -966,13 +940,13 @@ module _ (claims· : Claims) where
   s4 = Call.callB ps·0 r·0 (claims· .0) (claims· .1) T0 a·0 7 (1 ∷ []) (Syntax.tyInt Syntax.w64)
 
   abbrev s5 : Typed.Both T6 T7
-  s5 = Call.callB ps·1 r·1 (claims· .2) (claims· .3) T6 tt 14 [] (Syntax.tyArray (Syntax.tyInt Syntax.w8) 256)
+  s5 = Call.callB ps·1 r·1 (claims· .2) (claims· .3) T6 tt 13 [] (Syntax.tyArray (Syntax.tyInt Syntax.w8) 256)
 
   abbrev s6 : Typed.Mo T7 → Typed.Mo T8
-  s6 = LocalCopy.n-val-copy T7 14 8 (Array'.Array c·0 256) (Rows.arrF c·0 256 0) (Rows.arrF c·0 256 0) (λ x. x) (λ x. x) λ x. x
+  s6 = LocalCopy.n-val-copy T7 13 8 (Array'.Array c·0 256) (Rows.arrF c·0 256 0) (Rows.arrF c·0 256 0) (λ x. x) (λ x. x) λ x. x
 
   abbrev s7 : Typed.Mo T8 → Typed.Mo T9
-  s7 = Scalar.n-room T8 14 (Syntax.tyArray (Syntax.tyInt Syntax.w8) 256)
+  s7 = Scalar.n-room T8 13 (Syntax.tyArray (Syntax.tyInt Syntax.w8) 256)
 
   abbrev s8 : Typed.Both T9 T10
   s8 = Call.callB ps·2 r·2 (claims· .4) (claims· .5) T9 tt 9 [] y·24
@@ -985,19 +959,19 @@ module _ (claims· : Claims) where
 
   abbrev s11 : Typed.Asks T12 T14
   s11 = Scalar.k-op2 T12 (Syntax.lt Syntax.unsigned) (Scalar.oAt 11 (Syntax.tyInt Syntax.w64) (Row.valS (Row.sInt Syntax.w64))) (Scalar.oAt 7 (Syntax.tyInt Syntax.w64) (Row.valS
-      (Row.sInt Syntax.w64))) 15 (Rows'.sc-here Row.sBool) (Row.sBool .of)
+      (Row.sInt Syntax.w64))) 14 (Rows'.sc-here Row.sBool) (Row.sBool .of)
 
   abbrev s12 : Typed.Mo T14 → Typed.Mo T16
   s12 = Scalar.n-room T14 10 (Syntax.tyInt Syntax.w64)
 
   abbrev s13 : Typed.Mo T16 → Typed.Mo T15
-  s13 = Scalar.n-room T16 15 Syntax.tyBool
+  s13 = Scalar.n-room T16 14 Syntax.tyBool
 
   abbrev s14 : Typed.Mo T14 → Typed.Mo T18
   s14 = Scalar.n-room T14 8 (Syntax.tyArray (Syntax.tyInt Syntax.w8) 256)
 
   abbrev s15 : Typed.Mo T18 → Typed.Mo T13
-  s15 = Scalar.n-room T18 15 Syntax.tyBool
+  s15 = Scalar.n-room T18 14 Syntax.tyBool
 
   abbrev pub a·1 : ArgsT ps·3 (T15 .locals)
   a·1 = (record { pos = 2; ty = y·11; ref = λ x. x }, (Num.vAt 11 λ x. x, tt))
@@ -1006,51 +980,47 @@ module _ (claims· : Claims) where
   s16 = Call.callB ps·3 r·3 (claims· .6) (claims· .7) T15 a·1 12 (1 ∷ []) y·6
 
   abbrev s17 : Typed.Mo T20 → Typed.Mo T21
-  s17 = Scalar.n-use T20 (Scalar.oFld 12 (Syntax.field 0 ∷ []) (Syntax.tyInt Syntax.w64) 0 (Reads.fieldV Line.the-type Laws.the-laws 0)) 13 (Rows'.sc-here (Row.sInt Syntax.w64))
+  s17 = Scalar.n-use T20 (Scalar.oFld 12 (Syntax.field 1 ∷ []) (Syntax.tyInt Syntax.w64) 8 (Reads.fieldV Line.the-type Laws.the-laws 1)) 10 (Rows'.sc-here (Row.sInt Syntax.w64))
       (Row.sInt Syntax.w64 .of)
 
-  abbrev s18 : Typed.Mo T21 → Typed.Mo T22
-  s18 = Scalar.n-use T21 (Scalar.oFld 12 (Syntax.field 1 ∷ []) (Syntax.tyInt Syntax.w64) 8 (Reads.fieldV Line.the-type Laws.the-laws 1)) 10 (Rows'.sc-here (Row.sInt Syntax.w64))
-      (Row.sInt Syntax.w64 .of)
+  abbrev s18 : Typed.Mo T21 → Typed.Mo T12
+  s18 = Scalar.n-room T21 12 y·6
 
-  abbrev s19 : Typed.Mo T22 → Typed.Mo T23
-  s19 = Scalar.n-room T22 12 y·6
+  abbrev s20 : Typed.Gives T12 T24
+  s20 = Relend.k-sl-relend c·1 T12 4 15 2 5 y·12 y·7 Row.off λ x. x
 
-  abbrev s21 : Typed.Gives T23 T25
-  s21 = Relend.k-sl-relend c·1 T23 4 16 2 5 y·12 y·7 Row.off λ x. x
+  abbrev s21 : Typed.Asks T24 T25
+  s21 = Relend.k-sl-aggregate c·1 (Relend.asMut c·1) T24 15 16 5 y·7 y·7 (λ x. x) (Scalar.oFld 4 (Syntax.field 1 ∷ []) (Syntax.tyInt Syntax.w64) 8 λ v. Shared.lenV (v .0))
 
-  abbrev s22 : Typed.Asks T25 T26
-  s22 = Relend.k-sl-aggregate c·1 (Relend.asMut c·1) T25 16 17 5 y·7 y·7 (λ x. x) (Scalar.oFld 4 (Syntax.field 1 ∷ []) (Syntax.tyInt Syntax.w64) 8 λ v. Shared.lenV (v .0))
+  abbrev s23 : Typed.Gives T25 T27
+  s23 = Relend.k-sl-relend c·1 T25 5 17 3 6 y·13 y·7 Row.off λ x. x
 
-  abbrev s24 : Typed.Gives T26 T28
-  s24 = Relend.k-sl-relend c·1 T26 5 18 3 6 y·13 y·7 Row.off λ x. x
+  abbrev s24 : Typed.Asks T27 T28
+  s24 = Relend.k-sl-aggregate c·1 (Relend.asMut c·1) T27 17 18 6 y·7 y·7 (λ x. x) (Scalar.oFld 5 (Syntax.field 1 ∷ []) (Syntax.tyInt Syntax.w64) 8 λ v. Shared.lenV (v .0))
 
-  abbrev s25 : Typed.Asks T28 T29
-  s25 = Relend.k-sl-aggregate c·1 (Relend.asMut c·1) T28 18 19 6 y·7 y·7 (λ x. x) (Scalar.oFld 5 (Syntax.field 1 ∷ []) (Syntax.tyInt Syntax.w64) 8 λ v. Shared.lenV (v .0))
+  abbrev s26 : Typed.Gives T28 T30
+  s26 = Relend.k-sl-relend c·0 T28 6 19 4 7 y·14 y·8 Row.off λ x. x
 
-  abbrev s27 : Typed.Gives T29 T31
-  s27 = Relend.k-sl-relend c·0 T29 6 20 4 7 y·14 y·8 Row.off λ x. x
+  abbrev s27 : Typed.Asks T30 T31
+  s27 = Relend.k-sl-aggregate c·0 (Relend.asMut c·0) T30 19 20 7 y·8 y·8 (λ x. x) (Scalar.oFld 6 (Syntax.field 1 ∷ []) (Syntax.tyInt Syntax.w64) 8 λ v. Shared.lenV (v .0))
 
-  abbrev s28 : Typed.Asks T31 T32
-  s28 = Relend.k-sl-aggregate c·0 (Relend.asMut c·0) T31 20 21 7 y·8 y·8 (λ x. x) (Scalar.oFld 6 (Syntax.field 1 ∷ []) (Syntax.tyInt Syntax.w64) 8 λ v. Shared.lenV (v .0))
+  abbrev s29 : Typed.Gives T31 T33
+  s29 = Local.k-sc-share T31 8 21 8 (Array'.Array c·0 256) y·9 λ x. x
 
-  abbrev s30 : Typed.Gives T32 T34
-  s30 = Local.k-sc-share T32 8 22 8 (Array'.Array c·0 256) y·9 λ x. x
-
-  abbrev pub a·2 : ArgsT ps·4 (T34 .locals)
+  abbrev pub a·2 : ArgsT ps·4 (T33 .locals)
   a·2 = (
     record { pos = 1; ty = y·10; ref = λ x. x },
     (
-      Num.vAt 13 λ x. x,
+      record { pos = 2; ty = y·11; ref = λ x. x },
       (
-        Num.vAt 10 λ x. x,
+        Num.vAt 11 λ x. x,
         (
           Num.vAt 3 λ x. x,
           (
             record { pos = 9; st = []; d = 0; at = λ x. x },
             (
-              record { pos = 17; ty = y·7; ref = λ x. x },
-              (record { pos = 19; ty = y·7; ref = λ x. x }, (record { pos = 21; ty = y·8; ref = λ x. x }, (record { pos = 22; ty = y·9; ref = λ x. x }, tt))),
+              record { pos = 16; ty = y·7; ref = λ x. x },
+              (record { pos = 18; ty = y·7; ref = λ x. x }, (record { pos = 20; ty = y·8; ref = λ x. x }, (record { pos = 21; ty = y·9; ref = λ x. x }, tt))),
             ),
           ),
         ),
@@ -1058,72 +1028,69 @@ module _ (claims· : Claims) where
     ),
   )
 
-  abbrev s31 : Typed.Both T34 T35
-  s31 = Call.callB ps·4 r·4 (claims· .8) (claims· .9) T34 a·2 9 (0 ∷ 5 ∷ 6 ∷ 7 ∷ 8 ∷ []) y·24
+  abbrev s30 : Typed.Both T33 T34
+  s30 = Call.callB ps·4 r·4 (claims· .8) (claims· .9) T33 a·2 9 (0 ∷ 1 ∷ 5 ∷ 6 ∷ 7 ∷ 8 ∷ []) y·24
 
-  abbrev s32 : Typed.Mo T35 → Typed.Mo T36
-  s32 = Scalar.n-room T35 22 y·9
+  abbrev s31 : Typed.Mo T34 → Typed.Mo T35
+  s31 = Scalar.n-room T34 21 y·9
 
-  abbrev s34 : Typed.Both T36 T38
-  s34 = Relend.k-back-sl c·1 T36 17 4 2 5 y·12 y·7 Row.off (λ x. x) λ x. x
+  abbrev s33 : Typed.Both T35 T37
+  s33 = Relend.k-back-sl c·1 T35 16 4 2 5 y·12 y·7 Row.off (λ x. x) λ x. x
 
-  abbrev s35 : Typed.Gives T38 T38
-  s35 = Know.k-sl-known (Referent.fInt Syntax.w32) T38 4 2 y·12 Row.off 0 λ x. x
+  abbrev s34 : Typed.Gives T37 T37
+  s34 = Know.k-sl-known (Referent.fInt Syntax.w32) T37 4 2 y·12 Row.off 0 λ x. x
 
-  abbrev s38 : Typed.Both T38 T42
-  s38 = Relend.k-back-sl c·1 T38 19 5 3 6 y·13 y·7 Row.off (λ x. x) λ x. x
+  abbrev s37 : Typed.Both T37 T41
+  s37 = Relend.k-back-sl c·1 T37 18 5 3 6 y·13 y·7 Row.off (λ x. x) λ x. x
 
-  abbrev s39 : Typed.Gives T42 T42
-  s39 = Know.k-sl-known (Referent.fInt Syntax.w32) T42 5 3 y·13 Row.off 0 λ x. x
+  abbrev s38 : Typed.Gives T41 T41
+  s38 = Know.k-sl-known (Referent.fInt Syntax.w32) T41 5 3 y·13 Row.off 0 λ x. x
 
-  abbrev s42 : Typed.Both T42 T46
-  s42 = Relend.k-back-sl c·0 T42 21 6 4 7 y·14 y·8 Row.off (λ x. x) λ x. x
+  abbrev s41 : Typed.Both T41 T45
+  s41 = Relend.k-back-sl c·0 T41 20 6 4 7 y·14 y·8 Row.off (λ x. x) λ x. x
 
-  abbrev s43 : Typed.Gives T46 T46
-  s43 = Know.k-sl-known (Referent.fInt Syntax.w8) T46 6 4 y·14 Row.off 0 λ x. x
+  abbrev s42 : Typed.Gives T45 T45
+  s42 = Know.k-sl-known (Referent.fInt Syntax.w8) T45 6 4 y·14 Row.off 0 λ x. x
 
-  abbrev s46 : Typed.Mo T46 → Typed.Mo T23
-  s46 = Local.n-back-shr T46 8 8 (Rows.arrF c·0 256 0) λ x. x
+  abbrev s45 : Typed.Mo T45 → Typed.Mo T12
+  s45 = Local.n-back-shr T45 8 8 (Rows.arrF c·0 256 0) λ x. x
 
-  abbrev s48 : Typed.Asks T23 T23
-  s48 = Scalar.k-op2 T23 (Syntax.add Syntax.unsigned) (Scalar.oAt 11 (Syntax.tyInt Syntax.w64) (Row.valS (Row.sInt Syntax.w64))) (Scalar.oInt Syntax.w64 1) 11 (Rows'.sc-here
+  abbrev s47 : Typed.Asks T12 T12
+  s47 = Scalar.k-op2 T12 (Syntax.add Syntax.unsigned) (Scalar.oAt 11 (Syntax.tyInt Syntax.w64) (Row.valS (Row.sInt Syntax.w64))) (Scalar.oInt Syntax.w64 1) 11 (Rows'.sc-here
       (Row.sInt Syntax.w64)) (Row.sInt Syntax.w64 .of)
 
-  abbrev s49 : Typed.Mo T23 → Typed.Mo T12
-  s49 = Scalar.n-room T23 13 (Syntax.tyInt Syntax.w64)
+  abbrev s49 : Typed.Gives T13 T53
+  s49 = Relend.k-sl-relend c·1 T13 4 22 2 9 y·12 y·7 Row.off λ x. x
 
-  abbrev s51 : Typed.Gives T13 T55
-  s51 = Relend.k-sl-relend c·1 T13 4 23 2 9 y·12 y·7 Row.off λ x. x
+  abbrev s50 : Typed.Asks T53 T54
+  s50 = Relend.k-sl-aggregate c·1 (Relend.asMut c·1) T53 22 23 9 y·7 y·7 (λ x. x) (Scalar.oFld 4 (Syntax.field 1 ∷ []) (Syntax.tyInt Syntax.w64) 8 λ v. Shared.lenV (v .0))
 
-  abbrev s52 : Typed.Asks T55 T56
-  s52 = Relend.k-sl-aggregate c·1 (Relend.asMut c·1) T55 23 24 9 y·7 y·7 (λ x. x) (Scalar.oFld 4 (Syntax.field 1 ∷ []) (Syntax.tyInt Syntax.w64) 8 λ v. Shared.lenV (v .0))
+  abbrev pub a·3 : ArgsT ps·5 (T54 .locals)
+  a·3 = (Num.vAt 10 λ x. x, (record { pos = 9; st = []; d = 0; at = λ x. x }, (record { pos = 23; ty = y·7; ref = λ x. x }, tt)))
 
-  abbrev pub a·3 : ArgsT ps·5 (T56 .locals)
-  a·3 = (Num.vAt 10 λ x. x, (record { pos = 9; st = []; d = 0; at = λ x. x }, (record { pos = 24; ty = y·7; ref = λ x. x }, tt)))
+  abbrev s51 : Typed.Both T54 T55
+  s51 = Call.callB ps·5 r·5 (claims· .10) (claims· .11) T54 a·3 0 (9 ∷ []) y·24
 
-  abbrev s53 : Typed.Both T56 T57
-  s53 = Call.callB ps·5 r·5 (claims· .10) (claims· .11) T56 a·3 0 (9 ∷ []) y·24
+  abbrev s52 : Typed.Mo T55 → Typed.Mo T56
+  s52 = Scalar.n-room T55 7 (Syntax.tyInt Syntax.w64)
+
+  abbrev s53 : Typed.Mo T56 → Typed.Mo T57
+  s53 = Scalar.n-room T56 9 y·24
 
   abbrev s54 : Typed.Mo T57 → Typed.Mo T58
-  s54 = Scalar.n-room T57 7 (Syntax.tyInt Syntax.w64)
+  s54 = Scalar.n-room T57 10 (Syntax.tyInt Syntax.w64)
 
   abbrev s55 : Typed.Mo T58 → Typed.Mo T59
-  s55 = Scalar.n-room T58 9 y·24
+  s55 = Scalar.n-room T58 11 (Syntax.tyInt Syntax.w64)
 
-  abbrev s56 : Typed.Mo T59 → Typed.Mo T60
-  s56 = Scalar.n-room T59 10 (Syntax.tyInt Syntax.w64)
+  abbrev s57 : Typed.Both T59 T61
+  s57 = Relend.k-back-sl c·1 T59 23 4 2 9 y·12 y·7 Row.off (λ x. x) λ x. x
 
-  abbrev s57 : Typed.Mo T60 → Typed.Mo T61
-  s57 = Scalar.n-room T60 11 (Syntax.tyInt Syntax.w64)
+  abbrev s58 : Typed.Gives T61 T61
+  s58 = Know.k-sl-known (Referent.fInt Syntax.w32) T61 4 2 y·12 Row.off 0 λ x. x
 
-  abbrev s59 : Typed.Both T61 T63
-  s59 = Relend.k-back-sl c·1 T61 24 4 2 9 y·12 y·7 Row.off (λ x. x) λ x. x
-
-  abbrev s60 : Typed.Gives T63 T63
-  s60 = Know.k-sl-known (Referent.fInt Syntax.w32) T63 4 2 y·12 Row.off 0 λ x. x
-
-  abbrev s62 : Typed.Mo T63 → Typed.Mo T1
-  s62 = Scalar.n-room T63 3 (Syntax.tyInt Syntax.w32)
+  abbrev s60 : Typed.Mo T61 → Typed.Mo T1
+  s60 = Scalar.n-room T61 3 (Syntax.tyInt Syntax.w32)
 
   abbrev put0 : List.List (Referent.rtF (Referent.fInt Syntax.w32) .Denot) × List.List (Referent.rtF (Referent.fInt Syntax.w32) .Denot) × List.List (Referent.rtF (Referent.fInt
       Syntax.w8) .Denot) × Rows'.whole (Declared.row Parser.the-type) .Mod × Rows'.sc-here (Row.sInt Syntax.w64) .Mod × Rows'.sc-here (Row.sInt Syntax.w64) .Mod → Typed.Mo T12 →
@@ -1139,9 +1106,9 @@ module _ (claims· : Claims) where
       abbrev pub Closed : Type 2
       Closed = (𝓤 : URA.URA M) (H : Wp.Heap 𝓤) (A : Atoms.Atoms 𝓤) (W : Kit.Given 𝓤 H A) (𝓣 : Wp.Tables 𝓤 H) (known0 : Plain.Known 𝓤 H A W 𝓣 1 ps·0 r·0 (claims· .0) (claims· .1)
           "records::line_count") (known1 : Plain.Known 𝓤 H A W 𝓣 0 ps·1 r·1 (claims· .2) (claims· .3) "classes::table::classes") (known2 : Plain.Known 𝓤 H A W 𝓣 0 ps·2 r·2 (claims·
-          .4) (claims· .5) "inline::fresh") (known3 : Plain.Known 𝓤 H A W 𝓣 1 ps·3 r·3 (claims· .6) (claims· .7) "records::line_at") (known4 : Plain.Known 𝓤 H A W 𝓣 5 ps·4 r·4
-          (claims· .8) (claims· .9) "inline::feed_line") (known5 : Plain.Known 𝓤 H A W 𝓣 1 ps·5 r·5 (claims· .10) (claims· .11) "inline::finish") → Statement.Triple 𝓤 (Wp.WpFn 𝓤 H
-          (𝓣 .C) (𝓣 .Λ) (Function.fnOf 5 ps r xs m hs body)) (Function.plainOf 𝓤 H A 5 ps r Pre· Post·)
+          .4) (claims· .5) "inline::fresh") (known3 : Plain.Known 𝓤 H A W 𝓣 1 ps·3 r·3 (claims· .6) (claims· .7) "records::line_at") (known4 : Plain.Known 𝓤 H A W 𝓣 6 ps·4 r·4
+          (claims· .8) (claims· .9) "records::parse_line") (known5 : Plain.Known 𝓤 H A W 𝓣 1 ps·5 r·5 (claims· .10) (claims· .11) "inline::finish") → Statement.Triple 𝓤 (Wp.WpFn 𝓤
+          H (𝓣 .C) (𝓣 .Λ) (Function.fnOf 5 ps r xs m hs body)) (Function.plainOf 𝓤 H A 5 ps r Pre· Post·)
 
     module _ (Inv·0 : InvT-loop) (μ·0 : MeasureT-loop) where
       abbrev at0 : Typed.TF T15 O4
@@ -1163,164 +1130,161 @@ module _ (claims· : Claims) where
       at5 = λ Ψ. Typed.pass T14 T18 s14 (at4 Ψ)
 
       abbrev at6 : Typed.TF T14 O4
-      at6 = Scalar.Φcond T14 O4 15 (λ x. x) at2 at5
+      at6 = Scalar.Φcond T14 O4 14 (λ x. x) at2 at5
 
-      abbrev at7 : Typed.TF T23 O3
-      at7 = λ Ψ. Typed.ask s48 (Typed.pass T23 T12 s49 (Typed.atNext O3 Ψ))
+      abbrev at7 : Typed.TF T12 O3
+      at7 = λ Ψ. Typed.ask s47 (Typed.atNext O3 Ψ)
 
-      abbrev at9 : Typed.TF T46 O3
-      at9 = λ Ψ. Typed.pass T46 T23 s46 (at7 Ψ)
+      abbrev at9 : Typed.TF T45 O3
+      at9 = λ Ψ. Typed.pass T45 T12 s45 (at7 Ψ)
 
-      abbrev at12 : Typed.TF T46 O3
-      at12 = λ Ψ. Typed.give s43 (at9 Ψ)
+      abbrev at12 : Typed.TF T45 O3
+      at12 = λ Ψ. Typed.give s42 (at9 Ψ)
 
-      abbrev at13 : Typed.TF T42 O3
-      at13 = λ Ψ. Typed.both s42 (at12 Ψ)
+      abbrev at13 : Typed.TF T41 O3
+      at13 = λ Ψ. Typed.both s41 (at12 Ψ)
 
-      abbrev at16 : Typed.TF T42 O3
-      at16 = λ Ψ. Typed.give s39 (at13 Ψ)
+      abbrev at16 : Typed.TF T41 O3
+      at16 = λ Ψ. Typed.give s38 (at13 Ψ)
 
-      abbrev at17 : Typed.TF T38 O3
-      at17 = λ Ψ. Typed.both s38 (at16 Ψ)
+      abbrev at17 : Typed.TF T37 O3
+      at17 = λ Ψ. Typed.both s37 (at16 Ψ)
 
-      abbrev at20 : Typed.TF T38 O3
-      at20 = λ Ψ. Typed.give s35 (at17 Ψ)
+      abbrev at20 : Typed.TF T37 O3
+      at20 = λ Ψ. Typed.give s34 (at17 Ψ)
 
-      abbrev at21 : Typed.TF T36 O3
-      at21 = λ Ψ. Typed.both s34 (at20 Ψ)
+      abbrev at21 : Typed.TF T35 O3
+      at21 = λ Ψ. Typed.both s33 (at20 Ψ)
 
-      abbrev at23 : Typed.TF T35 O3
-      at23 = λ Ψ. Typed.pass T35 T36 s32 (at21 Ψ)
+      abbrev at23 : Typed.TF T34 O3
+      at23 = λ Ψ. Typed.pass T34 T35 s31 (at21 Ψ)
 
-      abbrev at24 : Typed.TF T34 O3
-      at24 = λ Ψ. Typed.both s31 (at23 Ψ)
+      abbrev at24 : Typed.TF T33 O3
+      at24 = λ Ψ. Typed.both s30 (at23 Ψ)
 
-      abbrev at25 : Typed.TF T32 O3
-      at25 = λ Ψ. Typed.give s30 (at24 Ψ)
+      abbrev at25 : Typed.TF T31 O3
+      at25 = λ Ψ. Typed.give s29 (at24 Ψ)
 
-      abbrev at27 : Typed.TF T31 O3
-      at27 = λ Ψ. Typed.ask s28 (at25 Ψ)
+      abbrev at27 : Typed.TF T30 O3
+      at27 = λ Ψ. Typed.ask s27 (at25 Ψ)
 
-      abbrev at28 : Typed.TF T29 O3
-      at28 = λ Ψ. Typed.give s27 (at27 Ψ)
+      abbrev at28 : Typed.TF T28 O3
+      at28 = λ Ψ. Typed.give s26 (at27 Ψ)
 
-      abbrev at30 : Typed.TF T28 O3
-      at30 = λ Ψ. Typed.ask s25 (at28 Ψ)
+      abbrev at30 : Typed.TF T27 O3
+      at30 = λ Ψ. Typed.ask s24 (at28 Ψ)
 
-      abbrev at31 : Typed.TF T26 O3
-      at31 = λ Ψ. Typed.give s24 (at30 Ψ)
+      abbrev at31 : Typed.TF T25 O3
+      at31 = λ Ψ. Typed.give s23 (at30 Ψ)
 
-      abbrev at33 : Typed.TF T25 O3
-      at33 = λ Ψ. Typed.ask s22 (at31 Ψ)
+      abbrev at33 : Typed.TF T24 O3
+      at33 = λ Ψ. Typed.ask s21 (at31 Ψ)
 
-      abbrev at34 : Typed.TF T23 O3
-      at34 = λ Ψ. Typed.give s21 (at33 Ψ)
+      abbrev at34 : Typed.TF T12 O3
+      at34 = λ Ψ. Typed.give s20 (at33 Ψ)
 
-      abbrev at36 : Typed.TF T22 O3
-      at36 = λ Ψ. Typed.pass T22 T23 s19 (at34 Ψ)
+      abbrev at36 : Typed.TF T21 O3
+      at36 = λ Ψ. Typed.pass T21 T12 s18 (at34 Ψ)
 
-      abbrev at37 : Typed.TF T21 O3
-      at37 = λ Ψ. Typed.pass T21 T22 s18 (at36 Ψ)
+      abbrev at37 : Typed.TF T20 O3
+      at37 = λ Ψ. Typed.pass T20 T21 s17 (at36 Ψ)
 
-      abbrev at38 : Typed.TF T20 O3
-      at38 = λ Ψ. Typed.pass T20 T21 s17 (at37 Ψ)
+      abbrev at38 : Typed.TF T15 O3
+      at38 = λ Ψ. Typed.both s16 (at37 Ψ)
 
-      abbrev at39 : Typed.TF T15 O3
-      at39 = λ Ψ. Typed.both s16 (at38 Ψ)
+      abbrev at39 : Typed.TF T14 O3
+      at39 = λ Ψ. at6 (Typed.wantNext T15 O3 (at38 Ψ) Ψ)
 
-      abbrev at40 : Typed.TF T14 O3
-      at40 = λ Ψ. at6 (Typed.wantNext T15 O3 (at39 Ψ) Ψ)
+      abbrev at40 : Typed.TF T12 O3
+      at40 = λ Ψ. Typed.ask s11 (at39 Ψ)
 
-      abbrev at41 : Typed.TF T12 O3
-      at41 = λ Ψ. Typed.ask s11 (at40 Ψ)
-
-      abbrev at42 : Typed.TF T12 O2
-      at42 = Typed.LoopBy T12 O2 put0 (λ u vs. Inv·0 (Row.get 1 (T12 .locals) u .now) (Row.get 2 (T12 .locals) u .now) (Row.get 3 (T12 .locals) u) (Row.get 4 (T12 .locals) u .now)
+      abbrev at41 : Typed.TF T12 O2
+      at41 = Typed.LoopBy T12 O2 put0 (λ u vs. Inv·0 (Row.get 1 (T12 .locals) u .now) (Row.get 2 (T12 .locals) u .now) (Row.get 3 (T12 .locals) u) (Row.get 4 (T12 .locals) u .now)
           (Row.get 5 (T12 .locals) u .now) (Row.get 6 (T12 .locals) u .now) (Row.get 7 (T12 .locals) u) (Row.get 8 (T12 .locals) u) (Row.get 9 (T12 .locals) u) (Row.get 10 (T12
           .locals) u) (Row.get 11 (T12 .locals) u) (vs .0) (vs .1) (vs .2) (vs .3) (vs .4) (vs .5)) (λ u vs. μ·0 (Row.get 1 (T12 .locals) u .now) (Row.get 2 (T12 .locals) u .now)
           (Row.get 3 (T12 .locals) u) (Row.get 4 (T12 .locals) u .now) (Row.get 5 (T12 .locals) u .now) (Row.get 6 (T12 .locals) u .now) (Row.get 7 (T12 .locals) u) (Row.get 8 (T12
-          .locals) u) (Row.get 9 (T12 .locals) u) (Row.get 10 (T12 .locals) u) (Row.get 11 (T12 .locals) u) (vs .0) (vs .1) (vs .2) (vs .3) (vs .4) (vs .5)) at41
+          .locals) u) (Row.get 9 (T12 .locals) u) (Row.get 10 (T12 .locals) u) (Row.get 11 (T12 .locals) u) (vs .0) (vs .1) (vs .2) (vs .3) (vs .4) (vs .5)) at40
 
-      abbrev at43 : Typed.TF T12 O1
-      at43 = λ Ψ. at42 (Typed.inBlock O1 Ψ)
+      abbrev at42 : Typed.TF T12 O1
+      at42 = λ Ψ. at41 (Typed.inBlock O1 Ψ)
 
-      abbrev at44 : Typed.TF T1 O0
-      at44 = Typed.atRet O0
+      abbrev at43 : Typed.TF T1 O0
+      at43 = Typed.atRet O0
 
-      abbrev at45 : Typed.TF T63 O0
-      at45 = λ Ψ. Typed.pass T63 T1 s62 (at44 Ψ)
+      abbrev at44 : Typed.TF T61 O0
+      at44 = λ Ψ. Typed.pass T61 T1 s60 (at43 Ψ)
 
-      abbrev at47 : Typed.TF T63 O0
-      at47 = λ Ψ. Typed.give s60 (at45 Ψ)
+      abbrev at46 : Typed.TF T61 O0
+      at46 = λ Ψ. Typed.give s58 (at44 Ψ)
 
-      abbrev at48 : Typed.TF T61 O0
-      at48 = λ Ψ. Typed.both s59 (at47 Ψ)
+      abbrev at47 : Typed.TF T59 O0
+      at47 = λ Ψ. Typed.both s57 (at46 Ψ)
 
-      abbrev at50 : Typed.TF T60 O0
-      at50 = λ Ψ. Typed.pass T60 T61 s57 (at48 Ψ)
+      abbrev at49 : Typed.TF T58 O0
+      at49 = λ Ψ. Typed.pass T58 T59 s55 (at47 Ψ)
 
-      abbrev at51 : Typed.TF T59 O0
-      at51 = λ Ψ. Typed.pass T59 T60 s56 (at50 Ψ)
+      abbrev at50 : Typed.TF T57 O0
+      at50 = λ Ψ. Typed.pass T57 T58 s54 (at49 Ψ)
 
-      abbrev at52 : Typed.TF T58 O0
-      at52 = λ Ψ. Typed.pass T58 T59 s55 (at51 Ψ)
+      abbrev at51 : Typed.TF T56 O0
+      at51 = λ Ψ. Typed.pass T56 T57 s53 (at50 Ψ)
 
-      abbrev at53 : Typed.TF T57 O0
-      at53 = λ Ψ. Typed.pass T57 T58 s54 (at52 Ψ)
+      abbrev at52 : Typed.TF T55 O0
+      at52 = λ Ψ. Typed.pass T55 T56 s52 (at51 Ψ)
 
-      abbrev at54 : Typed.TF T56 O0
-      at54 = λ Ψ. Typed.both s53 (at53 Ψ)
+      abbrev at53 : Typed.TF T54 O0
+      at53 = λ Ψ. Typed.both s51 (at52 Ψ)
 
-      abbrev at55 : Typed.TF T55 O0
-      at55 = λ Ψ. Typed.ask s52 (at54 Ψ)
+      abbrev at54 : Typed.TF T53 O0
+      at54 = λ Ψ. Typed.ask s50 (at53 Ψ)
 
-      abbrev at56 : Typed.TF T13 O0
-      at56 = λ Ψ. Typed.give s51 (at55 Ψ)
+      abbrev at55 : Typed.TF T13 O0
+      at55 = λ Ψ. Typed.give s49 (at54 Ψ)
 
-      abbrev at58 : Typed.TF T12 O0
-      at58 = λ Ψ. at43 (Typed.wantNext T13 O0 (at56 Ψ) Ψ)
+      abbrev at57 : Typed.TF T12 O0
+      at57 = λ Ψ. at42 (Typed.wantNext T13 O0 (at55 Ψ) Ψ)
 
-      abbrev at59 : Typed.TF T11 O0
-      at59 = λ Ψ. Typed.pass T11 T12 s10 (at58 Ψ)
+      abbrev at58 : Typed.TF T11 O0
+      at58 = λ Ψ. Typed.pass T11 T12 s10 (at57 Ψ)
 
-      abbrev at60 : Typed.TF T10 O0
-      at60 = λ Ψ. Typed.pass T10 T11 s9 (at59 Ψ)
+      abbrev at59 : Typed.TF T10 O0
+      at59 = λ Ψ. Typed.pass T10 T11 s9 (at58 Ψ)
 
-      abbrev at61 : Typed.TF T9 O0
-      at61 = λ Ψ. Typed.both s8 (at60 Ψ)
+      abbrev at60 : Typed.TF T9 O0
+      at60 = λ Ψ. Typed.both s8 (at59 Ψ)
 
-      abbrev at62 : Typed.TF T8 O0
-      at62 = λ Ψ. Typed.pass T8 T9 s7 (at61 Ψ)
+      abbrev at61 : Typed.TF T8 O0
+      at61 = λ Ψ. Typed.pass T8 T9 s7 (at60 Ψ)
 
-      abbrev at63 : Typed.TF T7 O0
-      at63 = λ Ψ. Typed.pass T7 T8 s6 (at62 Ψ)
+      abbrev at62 : Typed.TF T7 O0
+      at62 = λ Ψ. Typed.pass T7 T8 s6 (at61 Ψ)
 
-      abbrev at64 : Typed.TF T6 O0
-      at64 = λ Ψ. Typed.both s5 (at63 Ψ)
+      abbrev at63 : Typed.TF T6 O0
+      at63 = λ Ψ. Typed.both s5 (at62 Ψ)
+
+      abbrev at64 : Typed.TF T0 O0
+      at64 = λ Ψ. Typed.both s4 (at63 Ψ)
 
       abbrev at65 : Typed.TF T0 O0
-      at65 = λ Ψ. Typed.both s4 (at64 Ψ)
+      at65 = λ Ψ. Typed.give s3 (at64 Ψ)
 
       abbrev at66 : Typed.TF T0 O0
-      at66 = λ Ψ. Typed.give s3 (at65 Ψ)
+      at66 = λ Ψ. Typed.give s2 (at65 Ψ)
 
       abbrev at67 : Typed.TF T0 O0
-      at67 = λ Ψ. Typed.give s2 (at66 Ψ)
+      at67 = λ Ψ. Typed.give s1 (at66 Ψ)
 
       abbrev at68 : Typed.TF T0 O0
-      at68 = λ Ψ. Typed.give s1 (at67 Ψ)
-
-      abbrev at69 : Typed.TF T0 O0
-      at69 = λ Ψ. Typed.give s0 (at68 Ψ)
+      at68 = λ Ψ. Typed.give s0 (at67 Ψ)
 
       abbrev pub Φ : Typed.TF T0 O0
-      Φ = at69
+      Φ = at68
 
       module _ {M : Type 1} (𝓤 : URA.URA M) (H : Wp.Heap 𝓤) (A : Atoms.Atoms 𝓤) (W : Kit.Given 𝓤 H A) (𝓣 : Wp.Tables 𝓤 H) where
         abbrev Knowns : Type 1
         Knowns = Plain.Known 𝓤 H A W 𝓣 1 ps·0 r·0 (claims· .0) (claims· .1) "records::line_count" × Plain.Known 𝓤 H A W 𝓣 0 ps·1 r·1 (claims· .2) (claims· .3)
             "classes::table::classes" × Plain.Known 𝓤 H A W 𝓣 0 ps·2 r·2 (claims· .4) (claims· .5) "inline::fresh" × Plain.Known 𝓤 H A W 𝓣 1 ps·3 r·3 (claims· .6) (claims· .7)
-            "records::line_at" × Plain.Known 𝓤 H A W 𝓣 5 ps·4 r·4 (claims· .8) (claims· .9) "inline::feed_line" × Plain.Known 𝓤 H A W 𝓣 1 ps·5 r·5 (claims· .10) (claims· .11)
+            "records::line_at" × Plain.Known 𝓤 H A W 𝓣 6 ps·4 r·4 (claims· .8) (claims· .9) "records::parse_line" × Plain.Known 𝓤 H A W 𝓣 1 ps·5 r·5 (claims· .10) (claims· .11)
             "inline::finish"
 
       module _ (κs : Lifetimes.Lfts 5) (qs : Lifetimes.Shares 5) where
@@ -1351,41 +1315,44 @@ module _ (claims· : Claims) where
         abbrev pub e4·4 : Row.Entry
         e4·4 = (4, Relend.mslice-owed c·1 y·12 2 9 l·0)
 
-        abbrev g19 : List.List Row.Entry
-        g19 = e0·0 ∷ e1·0 ∷ e2·0 ∷ e3·0 ∷ e4·3 ∷ e5·0 ∷ e6·0 ∷ e7·1 ∷ e8·1 ∷ e9·1 ∷ e10·1 ∷ e11·1 ∷ e12·0 ∷ e13·1 ∷ e14·0 ∷ e15·0 ∷ []
+        abbrev g17 : List.List Row.Entry
+        g17 = e0·0 ∷ e1·0 ∷ e2·0 ∷ e3·0 ∷ e4·3 ∷ e5·0 ∷ e6·0 ∷ e7·1 ∷ e8·1 ∷ e9·1 ∷ e10·1 ∷ e11·1 ∷ e12·0 ∷ e13·0 ∷ e14·0 ∷ e15·1 ∷ []
 
-        abbrev g22 : List.List Row.Entry
-        g22 = e0·0 ∷ e1·0 ∷ e2·0 ∷ e3·0 ∷ e4·3 ∷ e5·2 ∷ e6·0 ∷ e7·1 ∷ e8·1 ∷ e9·1 ∷ e10·1 ∷ e11·1 ∷ e12·0 ∷ e13·1 ∷ e14·0 ∷ e15·0 ∷ []
+        abbrev g18 : List.List Row.Entry
+        g18 = e0·0 ∷ e1·0 ∷ e2·0 ∷ e3·0 ∷ e4·3 ∷ e5·0 ∷ e6·0 ∷ e7·1 ∷ e8·1 ∷ e9·1 ∷ e10·1 ∷ e11·1 ∷ e12·0 ∷ e13·0 ∷ e14·0 ∷ e15·0 ∷ []
 
-        abbrev g25 : List.List Row.Entry
-        g25 = e0·0 ∷ e1·0 ∷ e2·0 ∷ e3·0 ∷ e4·3 ∷ e5·2 ∷ e6·2 ∷ e7·1 ∷ e8·1 ∷ e9·1 ∷ e10·1 ∷ e11·1 ∷ e12·0 ∷ e13·1 ∷ e14·0 ∷ e15·0 ∷ []
+        abbrev g20 : List.List Row.Entry
+        g20 = e0·0 ∷ e1·0 ∷ e2·0 ∷ e3·0 ∷ e4·3 ∷ e5·2 ∷ e6·0 ∷ e7·1 ∷ e8·1 ∷ e9·1 ∷ e10·1 ∷ e11·1 ∷ e12·0 ∷ e13·0 ∷ e14·0 ∷ e15·0 ∷ []
 
-        abbrev g28 : List.List Row.Entry
-        g28 = e0·0 ∷ e1·0 ∷ e2·0 ∷ e3·0 ∷ e4·3 ∷ e5·2 ∷ e6·2 ∷ e7·1 ∷ e8·2 ∷ e9·1 ∷ e10·1 ∷ e11·1 ∷ e12·0 ∷ e13·1 ∷ e14·0 ∷ e15·0 ∷ []
+        abbrev g23 : List.List Row.Entry
+        g23 = e0·0 ∷ e1·0 ∷ e2·0 ∷ e3·0 ∷ e4·3 ∷ e5·2 ∷ e6·2 ∷ e7·1 ∷ e8·1 ∷ e9·1 ∷ e10·1 ∷ e11·1 ∷ e12·0 ∷ e13·0 ∷ e14·0 ∷ e15·0 ∷ []
+
+        abbrev g26 : List.List Row.Entry
+        g26 = e0·0 ∷ e1·0 ∷ e2·0 ∷ e3·0 ∷ e4·3 ∷ e5·2 ∷ e6·2 ∷ e7·1 ∷ e8·2 ∷ e9·1 ∷ e10·1 ∷ e11·1 ∷ e12·0 ∷ e13·0 ∷ e14·0 ∷ e15·0 ∷ []
+
+        abbrev g30 : List.List Row.Entry
+        g30 = e0·0 ∷ e1·0 ∷ e2·0 ∷ e3·0 ∷ e4·0 ∷ e5·2 ∷ e6·2 ∷ e7·1 ∷ e8·2 ∷ e9·1 ∷ e10·1 ∷ e11·1 ∷ e12·0 ∷ e13·0 ∷ e14·0 ∷ e15·0 ∷ []
 
         abbrev g32 : List.List Row.Entry
-        g32 = e0·0 ∷ e1·0 ∷ e2·0 ∷ e3·0 ∷ e4·0 ∷ e5·2 ∷ e6·2 ∷ e7·1 ∷ e8·2 ∷ e9·1 ∷ e10·1 ∷ e11·1 ∷ e12·0 ∷ e13·1 ∷ e14·0 ∷ e15·0 ∷ []
+        g32 = e0·0 ∷ e1·0 ∷ e2·0 ∷ e3·0 ∷ e4·0 ∷ e5·0 ∷ e6·2 ∷ e7·1 ∷ e8·2 ∷ e9·1 ∷ e10·1 ∷ e11·1 ∷ e12·0 ∷ e13·0 ∷ e14·0 ∷ e15·0 ∷ []
 
-        abbrev g34 : List.List Row.Entry
-        g34 = e0·0 ∷ e1·0 ∷ e2·0 ∷ e3·0 ∷ e4·0 ∷ e5·0 ∷ e6·2 ∷ e7·1 ∷ e8·2 ∷ e9·1 ∷ e10·1 ∷ e11·1 ∷ e12·0 ∷ e13·1 ∷ e14·0 ∷ e15·0 ∷ []
+        abbrev g35 : List.List Row.Entry
+        g35 = e0·0 ∷ e1·0 ∷ e2·0 ∷ e3·0 ∷ e4·4 ∷ e5·0 ∷ e6·0 ∷ e7·1 ∷ e8·0 ∷ e9·1 ∷ e10·1 ∷ e11·1 ∷ e12·0 ∷ e13·0 ∷ e14·0 ∷ e15·0 ∷ []
 
-        abbrev g37 : List.List Row.Entry
-        g37 = e0·0 ∷ e1·0 ∷ e2·0 ∷ e3·0 ∷ e4·4 ∷ e5·0 ∷ e6·0 ∷ e7·1 ∷ e8·0 ∷ e9·1 ∷ e10·1 ∷ e11·1 ∷ e12·0 ∷ e13·0 ∷ e14·0 ∷ e15·0 ∷ []
+        abbrev g38 : List.List Row.Entry
+        g38 = e0·1 ∷ e1·0 ∷ e2·0 ∷ e3·0 ∷ e4·4 ∷ e5·0 ∷ e6·0 ∷ e7·1 ∷ e8·0 ∷ e9·1 ∷ e10·1 ∷ e11·1 ∷ e12·0 ∷ e13·0 ∷ e14·0 ∷ e15·0 ∷ []
 
         abbrev g40 : List.List Row.Entry
-        g40 = e0·1 ∷ e1·0 ∷ e2·0 ∷ e3·0 ∷ e4·4 ∷ e5·0 ∷ e6·0 ∷ e7·1 ∷ e8·0 ∷ e9·1 ∷ e10·1 ∷ e11·1 ∷ e12·0 ∷ e13·0 ∷ e14·0 ∷ e15·0 ∷ []
+        g40 = e0·1 ∷ e1·0 ∷ e2·0 ∷ e3·0 ∷ e4·4 ∷ e5·0 ∷ e6·0 ∷ e7·0 ∷ e8·0 ∷ e9·1 ∷ e10·1 ∷ e11·1 ∷ e12·0 ∷ e13·0 ∷ e14·0 ∷ e15·0 ∷ []
+
+        abbrev g41 : List.List Row.Entry
+        g41 = e0·1 ∷ e1·0 ∷ e2·0 ∷ e3·0 ∷ e4·4 ∷ e5·0 ∷ e6·0 ∷ e7·0 ∷ e8·0 ∷ e9·0 ∷ e10·1 ∷ e11·1 ∷ e12·0 ∷ e13·0 ∷ e14·0 ∷ e15·0 ∷ []
 
         abbrev g42 : List.List Row.Entry
-        g42 = e0·1 ∷ e1·0 ∷ e2·0 ∷ e3·0 ∷ e4·4 ∷ e5·0 ∷ e6·0 ∷ e7·0 ∷ e8·0 ∷ e9·1 ∷ e10·1 ∷ e11·1 ∷ e12·0 ∷ e13·0 ∷ e14·0 ∷ e15·0 ∷ []
+        g42 = e0·1 ∷ e1·0 ∷ e2·0 ∷ e3·0 ∷ e4·4 ∷ e5·0 ∷ e6·0 ∷ e7·0 ∷ e8·0 ∷ e9·0 ∷ e10·0 ∷ e11·1 ∷ e12·0 ∷ e13·0 ∷ e14·0 ∷ e15·0 ∷ []
 
         abbrev g43 : List.List Row.Entry
-        g43 = e0·1 ∷ e1·0 ∷ e2·0 ∷ e3·0 ∷ e4·4 ∷ e5·0 ∷ e6·0 ∷ e7·0 ∷ e8·0 ∷ e9·0 ∷ e10·1 ∷ e11·1 ∷ e12·0 ∷ e13·0 ∷ e14·0 ∷ e15·0 ∷ []
-
-        abbrev g44 : List.List Row.Entry
-        g44 = e0·1 ∷ e1·0 ∷ e2·0 ∷ e3·0 ∷ e4·4 ∷ e5·0 ∷ e6·0 ∷ e7·0 ∷ e8·0 ∷ e9·0 ∷ e10·0 ∷ e11·1 ∷ e12·0 ∷ e13·0 ∷ e14·0 ∷ e15·0 ∷ []
-
-        abbrev g45 : List.List Row.Entry
-        g45 = e0·1 ∷ e1·0 ∷ e2·0 ∷ e3·0 ∷ e4·4 ∷ e5·0 ∷ e6·0 ∷ e7·0 ∷ e8·0 ∷ e9·0 ∷ e10·0 ∷ e11·0 ∷ e12·0 ∷ e13·0 ∷ e14·0 ∷ e15·0 ∷ []
+        g43 = e0·1 ∷ e1·0 ∷ e2·0 ∷ e3·0 ∷ e4·4 ∷ e5·0 ∷ e6·0 ∷ e7·0 ∷ e8·0 ∷ e9·0 ∷ e10·0 ∷ e11·0 ∷ e12·0 ∷ e13·0 ∷ e14·0 ∷ e15·0 ∷ []
 
         abbrev pub z·0 : List.List Row.Life
         z·0 = l·3 ∷ l·4 ∷ l·0 ∷ l·1 ∷ l·2 ∷ Row.off ∷ Row.off ∷ Row.off ∷ Row.off ∷ Row.off ∷ []
@@ -1501,116 +1468,110 @@ module _ (claims· : Claims) where
         abbrev G21 : Row.Cx
         G21 = record { locals = List._++_ t16 t1; slots = z·0 }
 
-        abbrev G22 : Row.Cx
-        G22 = record { locals = List._++_ t17 t1; slots = z·0 }
-
         abbrev G23 : Row.Cx
-        G23 = record { locals = List._++_ t18 t1; slots = z·0 }
+        G23 = record { locals = List._++_ t9 t1; slots = z·1 }
 
         abbrev G24 : Row.Cx
-        G24 = record { locals = List._++_ t18 t1; slots = z·1 }
+        G24 = record { locals = List._++_ g17 t1; slots = z·2 }
 
         abbrev G25 : Row.Cx
-        G25 = record { locals = List._++_ g19 t20; slots = z·2 }
+        G25 = record { locals = List._++_ g18 t19; slots = z·2 }
 
         abbrev G26 : Row.Cx
-        G26 = record { locals = List._++_ g19 t21; slots = z·2 }
+        G26 = record { locals = List._++_ g18 t19; slots = z·3 }
 
         abbrev G27 : Row.Cx
-        G27 = record { locals = List._++_ g19 t21; slots = z·3 }
+        G27 = record { locals = List._++_ g20 t21; slots = z·4 }
 
         abbrev G28 : Row.Cx
-        G28 = record { locals = List._++_ g22 t23; slots = z·4 }
+        G28 = record { locals = List._++_ g20 t22; slots = z·4 }
 
         abbrev G29 : Row.Cx
-        G29 = record { locals = List._++_ g22 t24; slots = z·4 }
+        G29 = record { locals = List._++_ g20 t22; slots = z·5 }
 
         abbrev G30 : Row.Cx
-        G30 = record { locals = List._++_ g22 t24; slots = z·5 }
+        G30 = record { locals = List._++_ g23 t24; slots = z·6 }
 
         abbrev G31 : Row.Cx
-        G31 = record { locals = List._++_ g25 t26; slots = z·6 }
+        G31 = record { locals = List._++_ g23 t25; slots = z·6 }
 
         abbrev G32 : Row.Cx
-        G32 = record { locals = List._++_ g25 t27; slots = z·6 }
+        G32 = record { locals = List._++_ g23 t25; slots = z·7 }
 
         abbrev G33 : Row.Cx
-        G33 = record { locals = List._++_ g25 t27; slots = z·7 }
+        G33 = record { locals = List._++_ g26 t27; slots = z·7 }
 
         abbrev G34 : Row.Cx
-        G34 = record { locals = List._++_ g28 t29; slots = z·7 }
+        G34 = record { locals = List._++_ g26 t28; slots = z·7 }
 
         abbrev G35 : Row.Cx
-        G35 = record { locals = List._++_ g28 t30; slots = z·7 }
+        G35 = record { locals = List._++_ g26 t29; slots = z·7 }
 
         abbrev G36 : Row.Cx
-        G36 = record { locals = List._++_ g28 t31; slots = z·7 }
+        G36 = record { locals = List._++_ g26 t29; slots = z·8 }
 
         abbrev G37 : Row.Cx
-        G37 = record { locals = List._++_ g28 t31; slots = z·8 }
+        G37 = record { locals = List._++_ g30 t31; slots = z·9 }
 
-        abbrev G38 : Row.Cx
-        G38 = record { locals = List._++_ g32 t33; slots = z·9 }
+        abbrev G39 : Row.Cx
+        G39 = record { locals = List._++_ g30 t31; slots = z·10 }
 
         abbrev G40 : Row.Cx
-        G40 = record { locals = List._++_ g32 t33; slots = z·10 }
+        G40 = record { locals = List._++_ g30 t31; slots = z·11 }
 
         abbrev G41 : Row.Cx
-        G41 = record { locals = List._++_ g32 t33; slots = z·11 }
+        G41 = record { locals = List._++_ g32 t33; slots = z·12 }
 
-        abbrev G42 : Row.Cx
-        G42 = record { locals = List._++_ g34 t35; slots = z·12 }
+        abbrev G43 : Row.Cx
+        G43 = record { locals = List._++_ g32 t33; slots = z·13 }
 
         abbrev G44 : Row.Cx
-        G44 = record { locals = List._++_ g34 t35; slots = z·13 }
+        G44 = record { locals = List._++_ g32 t33; slots = z·14 }
 
         abbrev G45 : Row.Cx
-        G45 = record { locals = List._++_ g34 t35; slots = z·14 }
+        G45 = record { locals = List._++_ t34 t1; slots = z·15 }
 
-        abbrev G46 : Row.Cx
-        G46 = record { locals = List._++_ t36 t1; slots = z·15 }
+        abbrev G47 : Row.Cx
+        G47 = record { locals = List._++_ t34 t1; slots = z·16 }
 
         abbrev G48 : Row.Cx
-        G48 = record { locals = List._++_ t36 t1; slots = z·16 }
+        G48 = record { locals = List._++_ t34 t1; slots = z·17 }
 
         abbrev G49 : Row.Cx
-        G49 = record { locals = List._++_ t36 t1; slots = z·17 }
+        G49 = record { locals = List._++_ t9 t1; slots = z·17 }
 
-        abbrev G50 : Row.Cx
-        G50 = record { locals = List._++_ t18 t1; slots = z·17 }
+        abbrev G52 : Row.Cx
+        G52 = record { locals = List._++_ t10 t1; slots = z·18 }
+
+        abbrev G53 : Row.Cx
+        G53 = record { locals = List._++_ g35 t36; slots = z·19 }
 
         abbrev G54 : Row.Cx
-        G54 = record { locals = List._++_ t10 t1; slots = z·18 }
+        G54 = record { locals = List._++_ g35 t37; slots = z·19 }
 
         abbrev G55 : Row.Cx
-        G55 = record { locals = List._++_ g37 t38; slots = z·19 }
+        G55 = record { locals = List._++_ g38 t39; slots = z·19 }
 
         abbrev G56 : Row.Cx
-        G56 = record { locals = List._++_ g37 t39; slots = z·19 }
+        G56 = record { locals = List._++_ g40 t39; slots = z·19 }
 
         abbrev G57 : Row.Cx
-        G57 = record { locals = List._++_ g40 t41; slots = z·19 }
+        G57 = record { locals = List._++_ g41 t39; slots = z·19 }
 
         abbrev G58 : Row.Cx
-        G58 = record { locals = List._++_ g42 t41; slots = z·19 }
+        G58 = record { locals = List._++_ g42 t39; slots = z·19 }
 
         abbrev G59 : Row.Cx
-        G59 = record { locals = List._++_ g43 t41; slots = z·19 }
+        G59 = record { locals = List._++_ g43 t39; slots = z·19 }
 
         abbrev G60 : Row.Cx
-        G60 = record { locals = List._++_ g44 t41; slots = z·19 }
+        G60 = record { locals = List._++_ g43 t39; slots = z·20 }
 
         abbrev G61 : Row.Cx
-        G61 = record { locals = List._++_ g45 t41; slots = z·19 }
-
-        abbrev G62 : Row.Cx
-        G62 = record { locals = List._++_ g45 t41; slots = z·20 }
+        G61 = record { locals = List._++_ t44 t1; slots = z·21 }
 
         abbrev G63 : Row.Cx
-        G63 = record { locals = List._++_ t46 t1; slots = z·21 }
-
-        abbrev G65 : Row.Cx
-        G65 = record { locals = List._++_ t46 t1; slots = z·0 }
+        G63 = record { locals = List._++_ t44 t1; slots = z·0 }
 
         abbrev Δ0 : Typed.Outs
         Δ0 = record { next = Option.none; exits = []; returns = Option.some G1 }
@@ -1636,7 +1597,7 @@ module _ (claims· : Claims) where
           d0 = Typed.t-skip 𝓤 H A W 𝓣 E Δ4 tt
 
           d1 : Typed.Typed 𝓤 H A 𝓣 E G16 b7 Δ4 at1
-          d1 = Typed.g-pre 𝓤 H A W 𝓣 E G16 G15 b7 Δ4 (Typed.pass T16 T15 s13) at0 (Scalar.g-room 𝓤 H A W E G16 15 Syntax.tyBool (Scalar.room-sc 𝓤 H A W Row.sBool)) d0
+          d1 = Typed.g-pre 𝓤 H A W 𝓣 E G16 G15 b7 Δ4 (Typed.pass T16 T15 s13) at0 (Scalar.g-room 𝓤 H A W E G16 14 Syntax.tyBool (Scalar.room-sc 𝓤 H A W Row.sBool)) d0
 
           d2 : Typed.Typed 𝓤 H A 𝓣 E G14 b7 Δ4 at2
           d2 = Typed.g-pre 𝓤 H A W 𝓣 E G14 G16 b7 Δ4 (Typed.pass T14 T16 s12) at1 (Scalar.g-room 𝓤 H A W E G14 10 (Syntax.tyInt Syntax.w64) (Scalar.room-sc 𝓤 H A W (Row.sInt
@@ -1646,115 +1607,116 @@ module _ (claims· : Claims) where
           d3 = Typed.t-exit 𝓤 H A W 𝓣 E 1 Δ4 tt
 
           d4 : Typed.Typed 𝓤 H A 𝓣 E G18 b8 Δ4 at4
-          d4 = Typed.g-pre 𝓤 H A W 𝓣 E G18 G13 b8 Δ4 (Typed.pass T18 T13 s15) at3 (Scalar.g-room 𝓤 H A W E G18 15 Syntax.tyBool (Scalar.room-sc 𝓤 H A W Row.sBool)) d3
+          d4 = Typed.g-pre 𝓤 H A W 𝓣 E G18 G13 b8 Δ4 (Typed.pass T18 T13 s15) at3 (Scalar.g-room 𝓤 H A W E G18 14 Syntax.tyBool (Scalar.room-sc 𝓤 H A W Row.sBool)) d3
 
           d5 : Typed.Typed 𝓤 H A 𝓣 E G14 b8 Δ4 at5
           d5 = Typed.g-pre 𝓤 H A W 𝓣 E G14 G18 b8 Δ4 (Typed.pass T14 T18 s14) at4 (Scalar.g-room 𝓤 H A W E G14 8 (Syntax.tyArray (Syntax.tyInt Syntax.w8) 256) (Init.room-arr 𝓤 H A
               W c·0 256 0 256 Path'.refl)) d4
 
           d6 : Typed.Typed 𝓤 H A 𝓣 E G14 b9 Δ4 at6
-          d6 = Scalar.t-cond 𝓤 H A W E 𝓣 G14 15 (λ x. x) b7 b8 Δ4 at2 at5 (Scalar.reads-sc 𝓤 H A W Row.sBool) Path'.refl d2 d5
+          d6 = Scalar.t-cond 𝓤 H A W E 𝓣 G14 14 (λ x. x) b7 b8 Δ4 at2 at5 (Scalar.reads-sc 𝓤 H A W Row.sBool) Path'.refl d2 d5
 
-          d7 : Typed.Typed 𝓤 H A 𝓣 E G23 b21 Δ3 at7
-          d7 = Typed.s-typed 𝓤 H A W 𝓣 E G23 b21 Δ3 (λ Ψ. Typed.ask s48 (Typed.pass T23 T12 s49 Ψ)) tt (Typed.g-post 𝓤 H A W 𝓣 E G23 G23 G12 b21 (Typed.ask s48) (Typed.pass T23 T12
-              s49) (Scalar.t-op2 𝓤 H A W E 𝓣 G23 (Syntax.add Syntax.unsigned) (Scalar.oAt 11 (Syntax.tyInt Syntax.w64) (Row.valS (Row.sInt Syntax.w64))) (Scalar.oInt Syntax.w64 1)
-              11 (Rows'.sc-here (Row.sInt Syntax.w64)) (Syntax.tyInt Syntax.w64) (Row.valS (Row.sInt Syntax.w64)) (Row.sInt Syntax.w64 .of)
-              (Scalar.reads-sc 𝓤 H A W (Row.sInt Syntax.w64), Path'.refl) tt (Scalar.room-sc 𝓤 H A W (Row.sInt Syntax.w64)) (Scalar.holds-sc 𝓤 H A W (Row.sInt Syntax.w64))
-              Path'.refl (λ u. Path'.refl) λ u. tt) (Scalar.g-room 𝓤 H A W E G23 13 (Syntax.tyInt Syntax.w64) (Scalar.room-sc 𝓤 H A W (Row.sInt Syntax.w64))))
+          d7 : Typed.Typed 𝓤 H A 𝓣 E G12 b20 Δ3 at7
+          d7 = Typed.s-typed 𝓤 H A W 𝓣 E G12 b20 Δ3 (Typed.ask s47) tt (Scalar.t-op2 𝓤 H A W E 𝓣 G12 (Syntax.add Syntax.unsigned) (Scalar.oAt 11 (Syntax.tyInt Syntax.w64) (Row.valS
+              (Row.sInt Syntax.w64))) (Scalar.oInt Syntax.w64 1) 11 (Rows'.sc-here (Row.sInt Syntax.w64)) (Syntax.tyInt Syntax.w64) (Row.valS (Row.sInt Syntax.w64)) (Row.sInt
+              Syntax.w64 .of) (Scalar.reads-sc 𝓤 H A W (Row.sInt Syntax.w64), Path'.refl) tt (Scalar.room-sc 𝓤 H A W (Row.sInt Syntax.w64)) (Scalar.holds-sc 𝓤 H A W (Row.sInt
+              Syntax.w64)) Path'.refl (λ u. Path'.refl) λ u. tt)
 
-          d8 : Typed.Typed 𝓤 H A 𝓣 E G50 b21 Δ3 at7
-          d8 = Typed.g-pre 𝓤 H A W 𝓣 E G50 G23 b21 Δ3 (λ Ψ. Ψ) at7 (Lifetime.g-forget 𝓤 H A W E G50 8 Row.dead Path'.refl) d7
+          d8 : Typed.Typed 𝓤 H A 𝓣 E G49 b20 Δ3 at7
+          d8 = Typed.g-pre 𝓤 H A W 𝓣 E G49 G12 b20 Δ3 (λ Ψ. Ψ) at7 (Lifetime.g-forget 𝓤 H A W E G49 8 Row.dead Path'.refl) d7
 
-          d9 : Typed.Typed 𝓤 H A 𝓣 E G49 b21 Δ3 at9
-          d9 = Typed.g-pre 𝓤 H A W 𝓣 E G49 G50 b21 Δ3 (Typed.pass T46 T23 s46) at7 (Local.g-back-shr 𝓤 H A W E G49 8 8 (Rows.arrF c·0 256 0) (Array'.Array c·0 256) (λ x. x) (λ x.
+          d9 : Typed.Typed 𝓤 H A 𝓣 E G48 b20 Δ3 at9
+          d9 = Typed.g-pre 𝓤 H A W 𝓣 E G48 G49 b20 Δ3 (Typed.pass T45 T12 s45) at7 (Local.g-back-shr 𝓤 H A W E G48 8 8 (Rows.arrF c·0 256 0) (Array'.Array c·0 256) (λ x. x) (λ x.
               x) (Reads'.as-is 𝓤 H A (Rows'.sc-shr (Rows.arrF c·0 256 0) (Array'.Array c·0 256) (λ x. x) 8)) (Local.home-of 𝓤 H A (Rows.arrF c·0 256 0) (Array'.Array c·0 256) (λ x.
               x) (λ x. x) (Whole.arr-mem 𝓤 H A W c·0 256 tt) λ x k. Path'.refl) Path'.refl) d8
 
-          d10 : Typed.Typed 𝓤 H A 𝓣 E G48 b21 Δ3 at9
-          d10 = Typed.g-pre 𝓤 H A W 𝓣 E G48 G49 b21 Δ3 (λ Ψ. Ψ) at9 (Lifetime.g-end 𝓤 H A W E G48 8 Path'.refl) d9
+          d10 : Typed.Typed 𝓤 H A 𝓣 E G47 b20 Δ3 at9
+          d10 = Typed.g-pre 𝓤 H A W 𝓣 E G47 G48 b20 Δ3 (λ Ψ. Ψ) at9 (Lifetime.g-end 𝓤 H A W E G47 8 Path'.refl) d9
 
-          d11 : Typed.Typed 𝓤 H A 𝓣 E G46 b21 Δ3 at9
-          d11 = Typed.g-pre 𝓤 H A W 𝓣 E G46 G48 b21 Δ3 (λ Ψ. Ψ) at9 (Lifetime.g-forget 𝓤 H A W E G46 7 Row.dead Path'.refl) d10
+          d11 : Typed.Typed 𝓤 H A 𝓣 E G45 b20 Δ3 at9
+          d11 = Typed.g-pre 𝓤 H A W 𝓣 E G45 G47 b20 Δ3 (λ Ψ. Ψ) at9 (Lifetime.g-forget 𝓤 H A W E G45 7 Row.dead Path'.refl) d10
 
-          d12 : Typed.Typed 𝓤 H A 𝓣 E G46 b21 Δ3 at12
-          d12 = Typed.g-pre 𝓤 H A W 𝓣 E G46 G46 b21 Δ3 (Typed.give s43) at9 (Know.g-sl-known 𝓤 H A W (Referent.fInt Syntax.w8) E G46 6 4 y·14 l·2 0 (λ x. x)
+          d12 : Typed.Typed 𝓤 H A 𝓣 E G45 b20 Δ3 at12
+          d12 = Typed.g-pre 𝓤 H A W 𝓣 E G45 G45 b20 Δ3 (Typed.give s42) at9 (Know.g-sl-known 𝓤 H A W (Referent.fInt Syntax.w8) E G45 6 4 y·14 l·2 0 (λ x. x)
               record { fits = Dec'.lit< tt } (Reads'.as-is 𝓤 H A (Mut.mslice c·0 y·14 4)) Path'.refl tt) d11
 
-          d13 : Typed.Typed 𝓤 H A 𝓣 E G45 b21 Δ3 at13
-          d13 = Typed.g-pre 𝓤 H A W 𝓣 E G45 G46 b21 Δ3 (Typed.both s42) at12 (Relend.g-back-sl 𝓤 H A W E c·0 G45 21 6 4 7 y·14 y·8 l·2 (λ x. x) (λ x. x) (Reads'.as-is 𝓤 H A
+          d13 : Typed.Typed 𝓤 H A 𝓣 E G44 b20 Δ3 at13
+          d13 = Typed.g-pre 𝓤 H A W 𝓣 E G44 G45 b20 Δ3 (Typed.both s41) at12 (Relend.g-back-sl 𝓤 H A W E c·0 G44 20 6 4 7 y·14 y·8 l·2 (λ x. x) (λ x. x) (Reads'.as-is 𝓤 H A
               (Mut.msleft c·0 y·8)) (Reads'.as-is 𝓤 H A (Relend.mslice-owed c·0 y·14 4 7 l·2)) Path'.refl Path'.refl) d12
 
-          d14 : Typed.Typed 𝓤 H A 𝓣 E G44 b21 Δ3 at13
-          d14 = Typed.g-pre 𝓤 H A W 𝓣 E G44 G45 b21 Δ3 (λ Ψ. Ψ) at13 (Lifetime.g-end 𝓤 H A W E G44 7 Path'.refl) d13
+          d14 : Typed.Typed 𝓤 H A 𝓣 E G43 b20 Δ3 at13
+          d14 = Typed.g-pre 𝓤 H A W 𝓣 E G43 G44 b20 Δ3 (λ Ψ. Ψ) at13 (Lifetime.g-end 𝓤 H A W E G43 7 Path'.refl) d13
 
-          d15 : Typed.Typed 𝓤 H A 𝓣 E G42 b21 Δ3 at13
-          d15 = Typed.g-pre 𝓤 H A W 𝓣 E G42 G44 b21 Δ3 (λ Ψ. Ψ) at13 (Lifetime.g-forget 𝓤 H A W E G42 6 Row.dead Path'.refl) d14
+          d15 : Typed.Typed 𝓤 H A 𝓣 E G41 b20 Δ3 at13
+          d15 = Typed.g-pre 𝓤 H A W 𝓣 E G41 G43 b20 Δ3 (λ Ψ. Ψ) at13 (Lifetime.g-forget 𝓤 H A W E G41 6 Row.dead Path'.refl) d14
 
-          d16 : Typed.Typed 𝓤 H A 𝓣 E G42 b21 Δ3 at16
-          d16 = Typed.g-pre 𝓤 H A W 𝓣 E G42 G42 b21 Δ3 (Typed.give s39) at13 (Know.g-sl-known 𝓤 H A W (Referent.fInt Syntax.w32) E G42 5 3 y·13 l·1 0 (λ x. x)
+          d16 : Typed.Typed 𝓤 H A 𝓣 E G41 b20 Δ3 at16
+          d16 = Typed.g-pre 𝓤 H A W 𝓣 E G41 G41 b20 Δ3 (Typed.give s38) at13 (Know.g-sl-known 𝓤 H A W (Referent.fInt Syntax.w32) E G41 5 3 y·13 l·1 0 (λ x. x)
               record { fits = Dec'.lit< tt } (Reads'.as-is 𝓤 H A (Mut.mslice c·1 y·13 3)) Path'.refl tt) d15
 
-          d17 : Typed.Typed 𝓤 H A 𝓣 E G41 b21 Δ3 at17
-          d17 = Typed.g-pre 𝓤 H A W 𝓣 E G41 G42 b21 Δ3 (Typed.both s38) at16 (Relend.g-back-sl 𝓤 H A W E c·1 G41 19 5 3 6 y·13 y·7 l·1 (λ x. x) (λ x. x) (Reads'.as-is 𝓤 H A
+          d17 : Typed.Typed 𝓤 H A 𝓣 E G40 b20 Δ3 at17
+          d17 = Typed.g-pre 𝓤 H A W 𝓣 E G40 G41 b20 Δ3 (Typed.both s37) at16 (Relend.g-back-sl 𝓤 H A W E c·1 G40 18 5 3 6 y·13 y·7 l·1 (λ x. x) (λ x. x) (Reads'.as-is 𝓤 H A
               (Mut.msleft c·1 y·7)) (Reads'.as-is 𝓤 H A (Relend.mslice-owed c·1 y·13 3 6 l·1)) Path'.refl Path'.refl) d16
 
-          d18 : Typed.Typed 𝓤 H A 𝓣 E G40 b21 Δ3 at17
-          d18 = Typed.g-pre 𝓤 H A W 𝓣 E G40 G41 b21 Δ3 (λ Ψ. Ψ) at17 (Lifetime.g-end 𝓤 H A W E G40 6 Path'.refl) d17
+          d18 : Typed.Typed 𝓤 H A 𝓣 E G39 b20 Δ3 at17
+          d18 = Typed.g-pre 𝓤 H A W 𝓣 E G39 G40 b20 Δ3 (λ Ψ. Ψ) at17 (Lifetime.g-end 𝓤 H A W E G39 6 Path'.refl) d17
 
-          d19 : Typed.Typed 𝓤 H A 𝓣 E G38 b21 Δ3 at17
-          d19 = Typed.g-pre 𝓤 H A W 𝓣 E G38 G40 b21 Δ3 (λ Ψ. Ψ) at17 (Lifetime.g-forget 𝓤 H A W E G38 5 Row.dead Path'.refl) d18
+          d19 : Typed.Typed 𝓤 H A 𝓣 E G37 b20 Δ3 at17
+          d19 = Typed.g-pre 𝓤 H A W 𝓣 E G37 G39 b20 Δ3 (λ Ψ. Ψ) at17 (Lifetime.g-forget 𝓤 H A W E G37 5 Row.dead Path'.refl) d18
 
-          d20 : Typed.Typed 𝓤 H A 𝓣 E G38 b21 Δ3 at20
-          d20 = Typed.g-pre 𝓤 H A W 𝓣 E G38 G38 b21 Δ3 (Typed.give s35) at17 (Know.g-sl-known 𝓤 H A W (Referent.fInt Syntax.w32) E G38 4 2 y·12 l·0 0 (λ x. x)
+          d20 : Typed.Typed 𝓤 H A 𝓣 E G37 b20 Δ3 at20
+          d20 = Typed.g-pre 𝓤 H A W 𝓣 E G37 G37 b20 Δ3 (Typed.give s34) at17 (Know.g-sl-known 𝓤 H A W (Referent.fInt Syntax.w32) E G37 4 2 y·12 l·0 0 (λ x. x)
               record { fits = Dec'.lit< tt } (Reads'.as-is 𝓤 H A (Mut.mslice c·1 y·12 2)) Path'.refl tt) d19
 
-          d21 : Typed.Typed 𝓤 H A 𝓣 E G37 b21 Δ3 at21
-          d21 = Typed.g-pre 𝓤 H A W 𝓣 E G37 G38 b21 Δ3 (Typed.both s34) at20 (Relend.g-back-sl 𝓤 H A W E c·1 G37 17 4 2 5 y·12 y·7 l·0 (λ x. x) (λ x. x) (Reads'.as-is 𝓤 H A
+          d21 : Typed.Typed 𝓤 H A 𝓣 E G36 b20 Δ3 at21
+          d21 = Typed.g-pre 𝓤 H A W 𝓣 E G36 G37 b20 Δ3 (Typed.both s33) at20 (Relend.g-back-sl 𝓤 H A W E c·1 G36 16 4 2 5 y·12 y·7 l·0 (λ x. x) (λ x. x) (Reads'.as-is 𝓤 H A
               (Mut.msleft c·1 y·7)) (Reads'.as-is 𝓤 H A (Relend.mslice-owed c·1 y·12 2 5 l·0)) Path'.refl Path'.refl) d20
 
-          d22 : Typed.Typed 𝓤 H A 𝓣 E G36 b21 Δ3 at21
-          d22 = Typed.g-pre 𝓤 H A W 𝓣 E G36 G37 b21 Δ3 (λ Ψ. Ψ) at21 (Lifetime.g-end 𝓤 H A W E G36 5 Path'.refl) d21
+          d22 : Typed.Typed 𝓤 H A 𝓣 E G35 b20 Δ3 at21
+          d22 = Typed.g-pre 𝓤 H A W 𝓣 E G35 G36 b20 Δ3 (λ Ψ. Ψ) at21 (Lifetime.g-end 𝓤 H A W E G35 5 Path'.refl) d21
 
-          d23 : Typed.Typed 𝓤 H A 𝓣 E G35 b21 Δ3 at23
-          d23 = Typed.g-pre 𝓤 H A W 𝓣 E G35 G36 b21 Δ3 (Typed.pass T35 T36 s32) at21 (Local.g-drop-sref 𝓤 H A W E G35 22 8 (Array'.Array c·0 256) y·9 (λ x. x) (Reads'.as-is 𝓤 H A
+          d23 : Typed.Typed 𝓤 H A 𝓣 E G34 b20 Δ3 at23
+          d23 = Typed.g-pre 𝓤 H A W 𝓣 E G34 G35 b20 Δ3 (Typed.pass T34 T35 s31) at21 (Local.g-drop-sref 𝓤 H A W E G34 21 8 (Array'.Array c·0 256) y·9 (λ x. x) (Reads'.as-is 𝓤 H A
               (Rows'.sref (Array'.Array c·0 256) y·9 8))) d22
 
-          d24 : Typed.Typed 𝓤 H A 𝓣 E G34 b22 Δ3 at24
-          d24 = Typed.s-seq 𝓤 H A W 𝓣 E G34 G35 b20 b21 Δ3 (Typed.both s31) at23 (Plain.t-call-plain 𝓤 H A W 𝓣 5 ps·4 r·4 (claims· .8) (claims· .9) "inline::feed_line" (known .4) E
-              (λ pos β. β) G34 (
+          d24 : Typed.Typed 𝓤 H A 𝓣 E G33 b21 Δ3 at24
+          d24 = Typed.s-seq 𝓤 H A W 𝓣 E G33 G34 b19 b20 Δ3 (Typed.both s30) at23 (Plain.t-call-plain 𝓤 H A W 𝓣 6 ps·4 r·4 (claims· .8) (claims· .9) "records::parse_line" (known .4)
+              E (λ pos β. β) G33 (
                 record { pos = 1; ty = y·10; ref = λ x. x },
                 (
-                  Num.vAt 13 λ x. x,
+                  record { pos = 2; ty = y·11; ref = λ x. x },
                   (
-                    Num.vAt 10 λ x. x,
+                    Num.vAt 11 λ x. x,
                     (
                       Num.vAt 3 λ x. x,
                       (
                         record { pos = 9; st = []; d = 0; at = λ x. x },
                         (
-                          record { pos = 17; ty = y·7; ref = λ x. x },
-                          (record { pos = 19; ty = y·7; ref = λ x. x }, (record { pos = 21; ty = y·8; ref = λ x. x }, (record { pos = 22; ty = y·9; ref = λ x. x }, tt))),
+                          record { pos = 16; ty = y·7; ref = λ x. x },
+                          (record { pos = 18; ty = y·7; ref = λ x. x }, (record { pos = 20; ty = y·8; ref = λ x. x }, (record { pos = 21; ty = y·9; ref = λ x. x }, tt))),
                         ),
                       ),
                     ),
                   ),
                 ),
-              ) 9 (0 ∷ 5 ∷ 6 ∷ 7
-              ∷ 8 ∷ []) (Call.sub-id 𝓤 H A W (G34 .slots)) (
+              ) 9 (0 ∷ 1 ∷ 5 ∷ 6
+              ∷ 7 ∷ 8 ∷ []) (Call.sub-id 𝓤 H A W (G33 .slots)) (
                 ShrSlice.spares-sslice 𝓤 H A W c·0 y·10 0,
                 Shared.reads-sslice 𝓤 H A W c·0 y·10 0,
                 Path'.refl,
                 (
-                  (Scalar.reads-sc 𝓤 H A W (Row.sInt Syntax.w64), Path'.refl),
+                  ShrSlice.spares-sslice 𝓤 H A W Kept′.row y·11 1,
+                  Shared.reads-sslice 𝓤 H A W Kept′.row y·11 1,
+                  Path'.refl,
                   (
                     (Scalar.reads-sc 𝓤 H A W (Row.sInt Syntax.w64), Path'.refl),
                     (
                       (Scalar.reads-sc 𝓤 H A W (Row.sInt Syntax.w32), Path'.refl),
                       (
                         (
-                          Yields.yields-copy 𝓤 H A W (λ ρ. Unit) (Declared.row Parser.the-type) Path'.refl (Copies.cStruct
-                              Parser.the-type Laws'.the-laws Laws'.the-copy .copy 𝓤 H A W) (Rows'.whole (Declared.row Parser.the-type)) (λ x. x) (λ x. x) (λ ρ told. Local.mem-whole 𝓤 H A W
-                              (Declared.row Parser.the-type) ρ) λ ρ told. Local.whole-mem 𝓤 H A W (Declared.row Parser.the-type) ρ,
+                          Yields.yields-copy 𝓤 H A W (λ ρ. Unit)
+                              (Declared.row Parser.the-type) Path'.refl (Copies.cStruct Parser.the-type Laws'.the-laws Laws'.the-copy .copy 𝓤 H A W) (Rows'.whole (Declared.row Parser.the-type)) (λ
+                              x. x) (λ x. x) (λ ρ told. Local.mem-whole 𝓤 H A W (Declared.row Parser.the-type) ρ) λ ρ told. Local.whole-mem 𝓤 H A W (Declared.row Parser.the-type) ρ,
                           Path'.refl,
                         ),
                         (
@@ -1763,11 +1725,11 @@ module _ (claims· : Claims) where
                           Path'.refl,
                           (
                             Reads'.as-is 𝓤 H A (Mut.mslice c·1 y·7 6),
-                            Mut.reads-mslice 𝓤 H A W c·1 y·7 6,
+                            Mut.reads-mslice 𝓤 H A W c·1
+                                y·7 6,
                             Path'.refl,
                             (
-                              Reads'.as-is 𝓤 H A
-                                  (Mut.mslice c·0 y·8 7),
+                              Reads'.as-is 𝓤 H A (Mut.mslice c·0 y·8 7),
                               Mut.reads-mslice 𝓤 H A W c·0 y·8 7,
                               Path'.refl,
                               (ShrRef.spares-sref 𝓤 H A W (Array'.Array c·0 256) y·9 8, Reads'.reads-sref 𝓤 H A W (Array'.Array c·0 256) y·9 8, Path'.refl, tt),
@@ -1779,140 +1741,133 @@ module _ (claims· : Claims) where
                   ),
                 ),
               ) (Local.room-whole 𝓤 H A W
-              (Declared.row Parser.the-type) y·24 Path'.refl) (tt, (tt, (tt, (tt, (tt, tt))))) Path'.refl) d23
+              (Declared.row Parser.the-type) y·24 Path'.refl) (tt, (tt, (tt, (tt, (tt, (tt, tt)))))) Path'.refl) d23
 
-          d25 : Typed.Typed 𝓤 H A 𝓣 E G33 b23 Δ3 at25
-          d25 = Typed.s-seq 𝓤 H A W 𝓣 E G33 G34 b19 b22 Δ3 (Typed.give s30) at24 (Local.t-sc-share 𝓤 H A W E 𝓣 G33 8 22 8 (Array'.Array c·0 256) y·9 (λ x. x) (Whole.mem-arr 𝓤 H A W
+          d25 : Typed.Typed 𝓤 H A 𝓣 E G32 b22 Δ3 at25
+          d25 = Typed.s-seq 𝓤 H A W 𝓣 E G32 G33 b18 b21 Δ3 (Typed.give s29) at24 (Local.t-sc-share 𝓤 H A W E 𝓣 G32 8 21 8 (Array'.Array c·0 256) y·9 (λ x. x) (Whole.mem-arr 𝓤 H A W
               c·0 256) (Reads'.room-gone 𝓤 H A y·9) Path'.refl λ b o. tt) d24
 
-          d26 : Typed.Typed 𝓤 H A 𝓣 E G32 b23 Δ3 at25
-          d26 = Typed.g-pre 𝓤 H A W 𝓣 E G32 G33 b23 Δ3 (λ Ψ. Ψ) at25 (Lifetime.g-begin 𝓤 H A W E G32 8
-              (tt, (tt, (tt, (tt, ((tt, tt), ((tt, tt), ((tt, tt), (tt, (tt, (tt, (tt, (tt, (tt, (tt, (tt, (tt, (tt, (tt, (tt, (tt, (tt, (tt, (tt, (tt, (tt, tt))))))))))))))))))))))))))
+          d26 : Typed.Typed 𝓤 H A 𝓣 E G31 b22 Δ3 at25
+          d26 = Typed.g-pre 𝓤 H A W 𝓣 E G31 G32 b22 Δ3 (λ Ψ. Ψ) at25 (Lifetime.g-begin 𝓤 H A W E G31 8
+              (tt, (tt, (tt, (tt, ((tt, tt), ((tt, tt), ((tt, tt), (tt, (tt, (tt, (tt, (tt, (tt, (tt, (tt, (tt, (tt, (tt, (tt, (tt, (tt, (tt, (tt, (tt, tt)))))))))))))))))))))))))
               d25
 
-          d27 : Typed.Typed 𝓤 H A 𝓣 E G31 b24 Δ3 at27
-          d27 = Typed.s-seq 𝓤 H A W 𝓣 E G31 G32 b18 b23 Δ3 (Typed.ask s28) at25 (Relend.t-sl-aggregate 𝓤 H A W E c·0 𝓣 (Relend.asMut c·0) G31 20 21 7 y·8 y·8 (λ x. x) (Scalar.oFld
+          d27 : Typed.Typed 𝓤 H A 𝓣 E G30 b23 Δ3 at27
+          d27 = Typed.s-seq 𝓤 H A W 𝓣 E G30 G31 b17 b22 Δ3 (Typed.ask s27) at25 (Relend.t-sl-aggregate 𝓤 H A W E c·0 𝓣 (Relend.asMut c·0) G30 19 20 7 y·8 y·8 (λ x. x) (Scalar.oFld
               6 (Syntax.field 1 ∷ []) (Syntax.tyInt Syntax.w64) 8 λ v. Shared.lenV (v .0)) (Reads'.as-is 𝓤 H A (Relend.msptr c·0 y·8 7)) (Reads'.room-gone 𝓤 H A y·20)
               (Relend.reads-owed-len 𝓤 H A W c·0 y·14 4 7 l·2 8 Path'.refl, Path'.refl) Path'.refl Path'.refl λ b o k. tt) d26
 
-          d28 : Typed.Typed 𝓤 H A 𝓣 E G30 b25 Δ3 at28
-          d28 = Typed.s-seq 𝓤 H A W 𝓣 E G30 G31 b17 b24 Δ3 (Typed.give s27) at27 (Relend.t-sl-relend 𝓤 H A W E c·0 𝓣 G30 6 20 4 7 y·14 y·8 l·2 0 (λ x. x) (Reads'.as-is 𝓤 H A
+          d28 : Typed.Typed 𝓤 H A 𝓣 E G29 b24 Δ3 at28
+          d28 = Typed.s-seq 𝓤 H A W 𝓣 E G29 G30 b16 b23 Δ3 (Typed.give s26) at27 (Relend.t-sl-relend 𝓤 H A W E c·0 𝓣 G29 6 19 4 7 y·14 y·8 l·2 0 (λ x. x) (Reads'.as-is 𝓤 H A
               (Mut.mslice c·0 y·14 4)) (Reads'.room-gone 𝓤 H A y·8) Path'.refl tt Path'.refl Path'.refl Path'.refl λ b o. tt) d27
 
-          d29 : Typed.Typed 𝓤 H A 𝓣 E G29 b25 Δ3 at28
-          d29 = Typed.g-pre 𝓤 H A W 𝓣 E G29 G30 b25 Δ3 (λ Ψ. Ψ) at28 (Lifetime.g-begin 𝓤 H A W E G29 7
-              (tt, (tt, (tt, (tt, ((tt, tt), ((tt, tt), (tt, (tt, (tt, (tt, (tt, (tt, (tt, (tt, (tt, (tt, (tt, (tt, (tt, (tt, (tt, (tt, (tt, (tt, (tt, tt))))))))))))))))))))))))))
-              d28
+          d29 : Typed.Typed 𝓤 H A 𝓣 E G28 b24 Δ3 at28
+          d29 = Typed.g-pre 𝓤 H A W 𝓣 E G28 G29 b24 Δ3 (λ Ψ. Ψ) at28 (Lifetime.g-begin 𝓤 H A W E G28 7
+              (tt, (tt, (tt, (tt, ((tt, tt), ((tt, tt), (tt, (tt, (tt, (tt, (tt, (tt, (tt, (tt, (tt, (tt, (tt, (tt, (tt, (tt, (tt, (tt, (tt, (tt, tt))))))))))))))))))))))))) d28
 
-          d30 : Typed.Typed 𝓤 H A 𝓣 E G28 b26 Δ3 at30
-          d30 = Typed.s-seq 𝓤 H A W 𝓣 E G28 G29 b16 b25 Δ3 (Typed.ask s25) at28 (Relend.t-sl-aggregate 𝓤 H A W E c·1 𝓣 (Relend.asMut c·1) G28 18 19 6 y·7 y·7 (λ x. x) (Scalar.oFld
+          d30 : Typed.Typed 𝓤 H A 𝓣 E G27 b25 Δ3 at30
+          d30 = Typed.s-seq 𝓤 H A W 𝓣 E G27 G28 b15 b24 Δ3 (Typed.ask s24) at28 (Relend.t-sl-aggregate 𝓤 H A W E c·1 𝓣 (Relend.asMut c·1) G27 17 18 6 y·7 y·7 (λ x. x) (Scalar.oFld
               5 (Syntax.field 1 ∷ []) (Syntax.tyInt Syntax.w64) 8 λ v. Shared.lenV (v .0)) (Reads'.as-is 𝓤 H A (Relend.msptr c·1 y·7 6)) (Reads'.room-gone 𝓤 H A y·19)
               (Relend.reads-owed-len 𝓤 H A W c·1 y·13 3 6 l·1 8 Path'.refl, Path'.refl) Path'.refl Path'.refl λ b o k. tt) d29
 
-          d31 : Typed.Typed 𝓤 H A 𝓣 E G27 b27 Δ3 at31
-          d31 = Typed.s-seq 𝓤 H A W 𝓣 E G27 G28 b15 b26 Δ3 (Typed.give s24) at30 (Relend.t-sl-relend 𝓤 H A W E c·1 𝓣 G27 5 18 3 6 y·13 y·7 l·1 0 (λ x. x) (Reads'.as-is 𝓤 H A
+          d31 : Typed.Typed 𝓤 H A 𝓣 E G26 b26 Δ3 at31
+          d31 = Typed.s-seq 𝓤 H A W 𝓣 E G26 G27 b14 b25 Δ3 (Typed.give s23) at30 (Relend.t-sl-relend 𝓤 H A W E c·1 𝓣 G26 5 17 3 6 y·13 y·7 l·1 0 (λ x. x) (Reads'.as-is 𝓤 H A
               (Mut.mslice c·1 y·13 3)) (Reads'.room-gone 𝓤 H A y·7) Path'.refl tt Path'.refl Path'.refl Path'.refl λ b o. tt) d30
 
-          d32 : Typed.Typed 𝓤 H A 𝓣 E G26 b27 Δ3 at31
-          d32 = Typed.g-pre 𝓤 H A W 𝓣 E G26 G27 b27 Δ3 (λ Ψ. Ψ) at31 (Lifetime.g-begin 𝓤 H A W E G26 6
-              (tt, (tt, (tt, (tt, ((tt, tt), (tt, (tt, (tt, (tt, (tt, (tt, (tt, (tt, (tt, (tt, (tt, (tt, (tt, (tt, (tt, (tt, (tt, (tt, (tt, (tt, tt)))))))))))))))))))))))))) d31
+          d32 : Typed.Typed 𝓤 H A 𝓣 E G25 b26 Δ3 at31
+          d32 = Typed.g-pre 𝓤 H A W 𝓣 E G25 G26 b26 Δ3 (λ Ψ. Ψ) at31 (Lifetime.g-begin 𝓤 H A W E G25 6
+              (tt, (tt, (tt, (tt, ((tt, tt), (tt, (tt, (tt, (tt, (tt, (tt, (tt, (tt, (tt, (tt, (tt, (tt, (tt, (tt, (tt, (tt, (tt, (tt, (tt, tt))))))))))))))))))))))))) d31
 
-          d33 : Typed.Typed 𝓤 H A 𝓣 E G25 b28 Δ3 at33
-          d33 = Typed.s-seq 𝓤 H A W 𝓣 E G25 G26 b14 b27 Δ3 (Typed.ask s22) at31 (Relend.t-sl-aggregate 𝓤 H A W E c·1 𝓣 (Relend.asMut c·1) G25 16 17 5 y·7 y·7 (λ x. x) (Scalar.oFld
+          d33 : Typed.Typed 𝓤 H A 𝓣 E G24 b27 Δ3 at33
+          d33 = Typed.s-seq 𝓤 H A W 𝓣 E G24 G25 b13 b26 Δ3 (Typed.ask s21) at31 (Relend.t-sl-aggregate 𝓤 H A W E c·1 𝓣 (Relend.asMut c·1) G24 15 16 5 y·7 y·7 (λ x. x) (Scalar.oFld
               4 (Syntax.field 1 ∷ []) (Syntax.tyInt Syntax.w64) 8 λ v. Shared.lenV (v .0)) (Reads'.as-is 𝓤 H A (Relend.msptr c·1 y·7 5)) (Reads'.room-gone 𝓤 H A y·19)
               (Relend.reads-owed-len 𝓤 H A W c·1 y·12 2 5 l·0 8 Path'.refl, Path'.refl) Path'.refl Path'.refl λ b o k. tt) d32
 
-          d34 : Typed.Typed 𝓤 H A 𝓣 E G24 b29 Δ3 at34
-          d34 = Typed.s-seq 𝓤 H A W 𝓣 E G24 G25 b13 b28 Δ3 (Typed.give s21) at33 (Relend.t-sl-relend 𝓤 H A W E c·1 𝓣 G24 4 16 2 5 y·12 y·7 l·0 0 (λ x. x) (Reads'.as-is 𝓤 H A
+          d34 : Typed.Typed 𝓤 H A 𝓣 E G23 b28 Δ3 at34
+          d34 = Typed.s-seq 𝓤 H A W 𝓣 E G23 G24 b12 b27 Δ3 (Typed.give s20) at33 (Relend.t-sl-relend 𝓤 H A W E c·1 𝓣 G23 4 15 2 5 y·12 y·7 l·0 0 (λ x. x) (Reads'.as-is 𝓤 H A
               (Mut.mslice c·1 y·12 2)) (Reads'.room-gone 𝓤 H A y·7) Path'.refl tt Path'.refl Path'.refl Path'.refl λ b o. tt) d33
 
-          d35 : Typed.Typed 𝓤 H A 𝓣 E G23 b29 Δ3 at34
-          d35 = Typed.g-pre 𝓤 H A W 𝓣 E G23 G24 b29 Δ3 (λ Ψ. Ψ) at34 (Lifetime.g-begin 𝓤 H A W E G23 5
-              (tt, (tt, (tt, (tt, (tt, (tt, (tt, (tt, (tt, (tt, (tt, (tt, (tt, (tt, (tt, (tt, (tt, (tt, (tt, (tt, (tt, (tt, (tt, (tt, (tt, tt)))))))))))))))))))))))))) d34
+          d35 : Typed.Typed 𝓤 H A 𝓣 E G12 b28 Δ3 at34
+          d35 = Typed.g-pre 𝓤 H A W 𝓣 E G12 G23 b28 Δ3 (λ Ψ. Ψ) at34 (Lifetime.g-begin 𝓤 H A W E G12 5
+              (tt, (tt, (tt, (tt, (tt, (tt, (tt, (tt, (tt, (tt, (tt, (tt, (tt, (tt, (tt, (tt, (tt, (tt, (tt, (tt, (tt, (tt, (tt, (tt, tt))))))))))))))))))))))))) d34
 
-          d36 : Typed.Typed 𝓤 H A 𝓣 E G22 b29 Δ3 at36
-          d36 = Typed.g-pre 𝓤 H A W 𝓣 E G22 G23 b29 Δ3 (Typed.pass T22 T23 s19) at34 (Scalar.g-room 𝓤 H A W E G22 12 y·6 (Local.room-whole 𝓤 H A W (Declared.row Line.the-type) y·6
+          d36 : Typed.Typed 𝓤 H A 𝓣 E G21 b28 Δ3 at36
+          d36 = Typed.g-pre 𝓤 H A W 𝓣 E G21 G12 b28 Δ3 (Typed.pass T21 T12 s18) at34 (Scalar.g-room 𝓤 H A W E G21 12 y·6 (Local.room-whole 𝓤 H A W (Declared.row Line.the-type) y·6
               Path'.refl)) d35
 
-          d37 : Typed.Typed 𝓤 H A 𝓣 E G21 b30 Δ3 at37
-          d37 = Typed.s-seq 𝓤 H A W 𝓣 E G21 G22 b12 b29 Δ3 (Typed.pass T21 T22 s18) at36 (Scalar.t-use 𝓤 H A W E 𝓣 G21 (Scalar.oFld 12 (Syntax.field 1 ∷ []) (Syntax.tyInt
+          d37 : Typed.Typed 𝓤 H A 𝓣 E G20 b29 Δ3 at37
+          d37 = Typed.s-seq 𝓤 H A W 𝓣 E G20 G21 b11 b28 Δ3 (Typed.pass T20 T21 s17) at36 (Scalar.t-use 𝓤 H A W E 𝓣 G20 (Scalar.oFld 12 (Syntax.field 1 ∷ []) (Syntax.tyInt
               Syntax.w64) 8 (Reads.fieldV Line.the-type Laws.the-laws 1)) 10 (Rows'.sc-here (Row.sInt Syntax.w64)) (Syntax.tyInt Syntax.w64) (Row.valS (Row.sInt Syntax.w64))
               (Row.sInt Syntax.w64 .of) (Reads.reads-field 𝓤 H A W Line.the-type Laws.the-laws 1 (Syntax.tyInt Syntax.w64) 8 Path'.refl, Path'.refl) (Reads'.room-gone 𝓤 H A
               (Syntax.tyInt Syntax.w64)) (Scalar.holds-sc 𝓤 H A W (Row.sInt Syntax.w64)) Path'.refl (λ u. Path'.refl) λ u. tt) d36
 
-          d38 : Typed.Typed 𝓤 H A 𝓣 E G20 b31 Δ3 at38
-          d38 = Typed.s-seq 𝓤 H A W 𝓣 E G20 G21 b11 b30 Δ3 (Typed.pass T20 T21 s17) at37 (Scalar.t-use 𝓤 H A W E 𝓣 G20 (Scalar.oFld 12 (Syntax.field 0 ∷ []) (Syntax.tyInt
-              Syntax.w64) 0 (Reads.fieldV Line.the-type Laws.the-laws 0)) 13 (Rows'.sc-here (Row.sInt Syntax.w64)) (Syntax.tyInt Syntax.w64) (Row.valS (Row.sInt Syntax.w64))
-              (Row.sInt Syntax.w64 .of) (Reads.reads-field 𝓤 H A W Line.the-type Laws.the-laws 0 (Syntax.tyInt Syntax.w64) 0 Path'.refl, Path'.refl) (Reads'.room-gone 𝓤 H A
-              (Syntax.tyInt Syntax.w64)) (Scalar.holds-sc 𝓤 H A W (Row.sInt Syntax.w64)) Path'.refl (λ u. Path'.refl) λ u. tt) d37
-
-          d39 : Typed.Typed 𝓤 H A 𝓣 E G15 b32 Δ3 at39
-          d39 = Typed.s-seq 𝓤 H A W 𝓣 E G15 G20 b10 b31 Δ3 (Typed.both s16) at38 (Plain.t-call-plain 𝓤 H A W 𝓣 1 ps·3 r·3 (claims· .6) (claims· .7) "records::line_at" (known .3) E
+          d38 : Typed.Typed 𝓤 H A 𝓣 E G15 b30 Δ3 at38
+          d38 = Typed.s-seq 𝓤 H A W 𝓣 E G15 G20 b10 b29 Δ3 (Typed.both s16) at37 (Plain.t-call-plain 𝓤 H A W 𝓣 1 ps·3 r·3 (claims· .6) (claims· .7) "records::line_at" (known .3) E
               (λ pos β. β) G15 (record { pos = 2; ty = y·11; ref = λ x. x }, (Num.vAt 11 λ x. x, tt)) 12 (1 ∷ []) (Call.sub-id 𝓤 H A W (G15 .slots))
               (ShrSlice.spares-sslice 𝓤 H A W Kept′.row y·11 1, Shared.reads-sslice 𝓤 H A W Kept′.row y·11 1, Path'.refl, ((Scalar.reads-sc 𝓤 H A W (Row.sInt Syntax.w64), Path'.refl), tt))
-              (Reads'.room-gone 𝓤 H A y·6) (tt, tt) Path'.refl) d38
+              (Reads'.room-gone 𝓤 H A y·6) (tt, tt) Path'.refl) d37
 
-          d40 : Typed.Typed 𝓤 H A 𝓣 E G14 b33 Δ3 at40
-          d40 = Typed.t-seq 𝓤 H A W 𝓣 E G14 G15 b9 b32 Δ3 at6 at39 d6 d39
+          d39 : Typed.Typed 𝓤 H A 𝓣 E G14 b31 Δ3 at39
+          d39 = Typed.t-seq 𝓤 H A W 𝓣 E G14 G15 b9 b30 Δ3 at6 at38 d6 d38
 
-          d41 : Typed.Typed 𝓤 H A 𝓣 E G12 b34 Δ3 at41
-          d41 = Typed.s-seq 𝓤 H A W 𝓣 E G12 G14 b6 b33 Δ3 (Typed.ask s11) at40 (Scalar.t-op2 𝓤 H A W E 𝓣 G12 (Syntax.lt Syntax.unsigned) (Scalar.oAt 11 (Syntax.tyInt Syntax.w64)
-              (Row.valS (Row.sInt Syntax.w64))) (Scalar.oAt 7 (Syntax.tyInt Syntax.w64) (Row.valS (Row.sInt Syntax.w64))) 15 (Rows'.sc-here Row.sBool) Syntax.tyBool (Row.valS
+          d40 : Typed.Typed 𝓤 H A 𝓣 E G12 b32 Δ3 at40
+          d40 = Typed.s-seq 𝓤 H A W 𝓣 E G12 G14 b6 b31 Δ3 (Typed.ask s11) at39 (Scalar.t-op2 𝓤 H A W E 𝓣 G12 (Syntax.lt Syntax.unsigned) (Scalar.oAt 11 (Syntax.tyInt Syntax.w64)
+              (Row.valS (Row.sInt Syntax.w64))) (Scalar.oAt 7 (Syntax.tyInt Syntax.w64) (Row.valS (Row.sInt Syntax.w64))) 14 (Rows'.sc-here Row.sBool) Syntax.tyBool (Row.valS
               Row.sBool) (Row.sBool .of) (Scalar.reads-sc 𝓤 H A W (Row.sInt Syntax.w64), Path'.refl) (Scalar.reads-sc 𝓤 H A W (Row.sInt Syntax.w64), Path'.refl) (Reads'.room-gone 𝓤
-              H A Syntax.tyBool) (Scalar.holds-sc 𝓤 H A W Row.sBool) Path'.refl (λ u. Path'.refl) λ u. tt) d40
+              H A Syntax.tyBool) (Scalar.holds-sc 𝓤 H A W Row.sBool) Path'.refl (λ u. Path'.refl) λ u. tt) d39
 
-          d42 : Typed.Typed 𝓤 H A 𝓣 E G12 b35 Δ2 at42
-          d42 = Typed.t-loop-by 𝓤 H A W 𝓣 E G12 b34 Δ2 put0 (λ u vs. Inv·0 (Row.get 1 (T12 .locals) u .now) (Row.get 2 (T12 .locals) u .now) (Row.get 3 (T12 .locals) u) (Row.get 4
+          d41 : Typed.Typed 𝓤 H A 𝓣 E G12 b33 Δ2 at41
+          d41 = Typed.t-loop-by 𝓤 H A W 𝓣 E G12 b32 Δ2 put0 (λ u vs. Inv·0 (Row.get 1 (T12 .locals) u .now) (Row.get 2 (T12 .locals) u .now) (Row.get 3 (T12 .locals) u) (Row.get 4
               (T12 .locals) u .now) (Row.get 5 (T12 .locals) u .now) (Row.get 6 (T12 .locals) u .now) (Row.get 7 (T12 .locals) u) (Row.get 8 (T12 .locals) u) (Row.get 9 (T12
               .locals) u) (Row.get 10 (T12 .locals) u) (Row.get 11 (T12 .locals) u) (vs .0) (vs .1) (vs .2) (vs .3) (vs .4) (vs .5)) (λ u vs. μ·0 (Row.get 1 (T12 .locals) u .now)
               (Row.get 2 (T12 .locals) u .now) (Row.get 3 (T12 .locals) u) (Row.get 4 (T12 .locals) u .now) (Row.get 5 (T12 .locals) u .now) (Row.get 6 (T12 .locals) u .now)
               (Row.get 7 (T12 .locals) u) (Row.get 8 (T12 .locals) u) (Row.get 9 (T12 .locals) u) (Row.get 10 (T12 .locals) u) (Row.get 11 (T12 .locals) u) (vs .0) (vs .1) (vs .2)
-              (vs .3) (vs .4) (vs .5)) at41 d41
+              (vs .3) (vs .4) (vs .5)) at40 d40
 
-          d43 : Typed.Typed 𝓤 H A 𝓣 E G12 b36 Δ1 at43
-          d43 = Typed.t-block 𝓤 H A W 𝓣 E G12 b35 Δ1 at42 d42
+          d42 : Typed.Typed 𝓤 H A 𝓣 E G12 b34 Δ1 at42
+          d42 = Typed.t-block 𝓤 H A W 𝓣 E G12 b33 Δ1 at41 d41
 
-          d44 : Typed.Typed 𝓤 H A 𝓣 E G1 b40 Δ0 at44
-          d44 = Typed.t-return 𝓤 H A W 𝓣 E Δ0 tt
+          d43 : Typed.Typed 𝓤 H A 𝓣 E G1 b38 Δ0 at43
+          d43 = Typed.t-return 𝓤 H A W 𝓣 E Δ0 tt
 
-          d45 : Typed.Typed 𝓤 H A 𝓣 E G65 b40 Δ0 at45
-          d45 = Typed.g-pre 𝓤 H A W 𝓣 E G65 G1 b40 Δ0 (Typed.pass T63 T1 s62) at44 (Scalar.g-room 𝓤 H A W E G65 3 (Syntax.tyInt Syntax.w32) (Scalar.room-sc 𝓤 H A W (Row.sInt
-              Syntax.w32))) d44
+          d44 : Typed.Typed 𝓤 H A 𝓣 E G63 b38 Δ0 at44
+          d44 = Typed.g-pre 𝓤 H A W 𝓣 E G63 G1 b38 Δ0 (Typed.pass T61 T1 s60) at43 (Scalar.g-room 𝓤 H A W E G63 3 (Syntax.tyInt Syntax.w32) (Scalar.room-sc 𝓤 H A W (Row.sInt
+              Syntax.w32))) d43
 
-          d46 : Typed.Typed 𝓤 H A 𝓣 E G63 b40 Δ0 at45
-          d46 = Typed.g-pre 𝓤 H A W 𝓣 E G63 G65 b40 Δ0 (λ Ψ. Ψ) at45 (Lifetime.g-forget 𝓤 H A W E G63 9 Row.dead Path'.refl) d45
+          d45 : Typed.Typed 𝓤 H A 𝓣 E G61 b38 Δ0 at44
+          d45 = Typed.g-pre 𝓤 H A W 𝓣 E G61 G63 b38 Δ0 (λ Ψ. Ψ) at44 (Lifetime.g-forget 𝓤 H A W E G61 9 Row.dead Path'.refl) d44
 
-          d47 : Typed.Typed 𝓤 H A 𝓣 E G63 b40 Δ0 at47
-          d47 = Typed.g-pre 𝓤 H A W 𝓣 E G63 G63 b40 Δ0 (Typed.give s60) at45 (Know.g-sl-known 𝓤 H A W (Referent.fInt Syntax.w32) E G63 4 2 y·12 l·0 0 (λ x. x)
-              record { fits = Dec'.lit< tt } (Reads'.as-is 𝓤 H A (Mut.mslice c·1 y·12 2)) Path'.refl tt) d46
+          d46 : Typed.Typed 𝓤 H A 𝓣 E G61 b38 Δ0 at46
+          d46 = Typed.g-pre 𝓤 H A W 𝓣 E G61 G61 b38 Δ0 (Typed.give s58) at44 (Know.g-sl-known 𝓤 H A W (Referent.fInt Syntax.w32) E G61 4 2 y·12 l·0 0 (λ x. x)
+              record { fits = Dec'.lit< tt } (Reads'.as-is 𝓤 H A (Mut.mslice c·1 y·12 2)) Path'.refl tt) d45
 
-          d48 : Typed.Typed 𝓤 H A 𝓣 E G62 b40 Δ0 at48
-          d48 = Typed.g-pre 𝓤 H A W 𝓣 E G62 G63 b40 Δ0 (Typed.both s59) at47 (Relend.g-back-sl 𝓤 H A W E c·1 G62 24 4 2 9 y·12 y·7 l·0 (λ x. x) (λ x. x) (Reads'.as-is 𝓤 H A
-              (Mut.msleft c·1 y·7)) (Reads'.as-is 𝓤 H A (Relend.mslice-owed c·1 y·12 2 9 l·0)) Path'.refl Path'.refl) d47
+          d47 : Typed.Typed 𝓤 H A 𝓣 E G60 b38 Δ0 at47
+          d47 = Typed.g-pre 𝓤 H A W 𝓣 E G60 G61 b38 Δ0 (Typed.both s57) at46 (Relend.g-back-sl 𝓤 H A W E c·1 G60 23 4 2 9 y·12 y·7 l·0 (λ x. x) (λ x. x) (Reads'.as-is 𝓤 H A
+              (Mut.msleft c·1 y·7)) (Reads'.as-is 𝓤 H A (Relend.mslice-owed c·1 y·12 2 9 l·0)) Path'.refl Path'.refl) d46
 
-          d49 : Typed.Typed 𝓤 H A 𝓣 E G61 b40 Δ0 at48
-          d49 = Typed.g-pre 𝓤 H A W 𝓣 E G61 G62 b40 Δ0 (λ Ψ. Ψ) at48 (Lifetime.g-end 𝓤 H A W E G61 9 Path'.refl) d48
+          d48 : Typed.Typed 𝓤 H A 𝓣 E G59 b38 Δ0 at47
+          d48 = Typed.g-pre 𝓤 H A W 𝓣 E G59 G60 b38 Δ0 (λ Ψ. Ψ) at47 (Lifetime.g-end 𝓤 H A W E G59 9 Path'.refl) d47
 
-          d50 : Typed.Typed 𝓤 H A 𝓣 E G60 b40 Δ0 at50
-          d50 = Typed.g-pre 𝓤 H A W 𝓣 E G60 G61 b40 Δ0 (Typed.pass T60 T61 s57) at48 (Scalar.g-room 𝓤 H A W E G60 11 (Syntax.tyInt Syntax.w64) (Scalar.room-sc 𝓤 H A W (Row.sInt
+          d49 : Typed.Typed 𝓤 H A 𝓣 E G58 b38 Δ0 at49
+          d49 = Typed.g-pre 𝓤 H A W 𝓣 E G58 G59 b38 Δ0 (Typed.pass T58 T59 s55) at47 (Scalar.g-room 𝓤 H A W E G58 11 (Syntax.tyInt Syntax.w64) (Scalar.room-sc 𝓤 H A W (Row.sInt
+              Syntax.w64))) d48
+
+          d50 : Typed.Typed 𝓤 H A 𝓣 E G57 b38 Δ0 at50
+          d50 = Typed.g-pre 𝓤 H A W 𝓣 E G57 G58 b38 Δ0 (Typed.pass T57 T58 s54) at49 (Scalar.g-room 𝓤 H A W E G57 10 (Syntax.tyInt Syntax.w64) (Scalar.room-sc 𝓤 H A W (Row.sInt
               Syntax.w64))) d49
 
-          d51 : Typed.Typed 𝓤 H A 𝓣 E G59 b40 Δ0 at51
-          d51 = Typed.g-pre 𝓤 H A W 𝓣 E G59 G60 b40 Δ0 (Typed.pass T59 T60 s56) at50 (Scalar.g-room 𝓤 H A W E G59 10 (Syntax.tyInt Syntax.w64) (Scalar.room-sc 𝓤 H A W (Row.sInt
-              Syntax.w64))) d50
+          d51 : Typed.Typed 𝓤 H A 𝓣 E G56 b38 Δ0 at51
+          d51 = Typed.g-pre 𝓤 H A W 𝓣 E G56 G57 b38 Δ0 (Typed.pass T56 T57 s53) at50 (Scalar.g-room 𝓤 H A W E G56 9 y·24 (Local.room-whole 𝓤 H A W (Declared.row Parser.the-type)
+              y·24 Path'.refl)) d50
 
-          d52 : Typed.Typed 𝓤 H A 𝓣 E G58 b40 Δ0 at52
-          d52 = Typed.g-pre 𝓤 H A W 𝓣 E G58 G59 b40 Δ0 (Typed.pass T58 T59 s55) at51 (Scalar.g-room 𝓤 H A W E G58 9 y·24 (Local.room-whole 𝓤 H A W (Declared.row Parser.the-type)
-              y·24 Path'.refl)) d51
+          d52 : Typed.Typed 𝓤 H A 𝓣 E G55 b38 Δ0 at52
+          d52 = Typed.g-pre 𝓤 H A W 𝓣 E G55 G56 b38 Δ0 (Typed.pass T55 T56 s52) at51 (Scalar.g-room 𝓤 H A W E G55 7 (Syntax.tyInt Syntax.w64) (Scalar.room-sc 𝓤 H A W (Row.sInt
+              Syntax.w64))) d51
 
-          d53 : Typed.Typed 𝓤 H A 𝓣 E G57 b40 Δ0 at53
-          d53 = Typed.g-pre 𝓤 H A W 𝓣 E G57 G58 b40 Δ0 (Typed.pass T57 T58 s54) at52 (Scalar.g-room 𝓤 H A W E G57 7 (Syntax.tyInt Syntax.w64) (Scalar.room-sc 𝓤 H A W (Row.sInt
-              Syntax.w64))) d52
-
-          d54 : Typed.Typed 𝓤 H A 𝓣 E G56 b41 Δ0 at54
-          d54 = Typed.s-seq 𝓤 H A W 𝓣 E G56 G57 b39 b40 Δ0 (Typed.both s53) at53 (Plain.t-call-plain 𝓤 H A W 𝓣 1 ps·5 r·5 (claims· .10) (claims· .11) "inline::finish" (known .5) E
-              (λ pos β. β) G56 (Num.vAt 10 λ x. x, (record { pos = 9; st = []; d = 0; at = λ x. x }, (record { pos = 24; ty = y·7; ref = λ x. x }, tt))) 0 (9 ∷ []) (Call.sub-id 𝓤 H
-              A W (G56 .slots)) (
+          d53 : Typed.Typed 𝓤 H A 𝓣 E G54 b39 Δ0 at53
+          d53 = Typed.s-seq 𝓤 H A W 𝓣 E G54 G55 b37 b38 Δ0 (Typed.both s51) at52 (Plain.t-call-plain 𝓤 H A W 𝓣 1 ps·5 r·5 (claims· .10) (claims· .11) "inline::finish" (known .5) E
+              (λ pos β. β) G54 (Num.vAt 10 λ x. x, (record { pos = 9; st = []; d = 0; at = λ x. x }, (record { pos = 23; ty = y·7; ref = λ x. x }, tt))) 0 (9 ∷ []) (Call.sub-id 𝓤 H
+              A W (G54 .slots)) (
                 (Scalar.reads-sc 𝓤 H A W (Row.sInt Syntax.w64), Path'.refl),
                 (
                   (
@@ -1923,78 +1878,78 @@ module _ (claims· : Claims) where
                   ),
                   (Reads'.as-is 𝓤 H A (Mut.mslice c·1 y·7 9), Mut.reads-mslice 𝓤 H A W c·1 y·7 9, Path'.refl, tt),
                 ),
-              ) (Reads'.room-gone 𝓤 H A y·24) (tt, tt) Path'.refl) d53
+              ) (Reads'.room-gone 𝓤 H A y·24) (tt, tt) Path'.refl) d52
 
-          d55 : Typed.Typed 𝓤 H A 𝓣 E G55 b42 Δ0 at55
-          d55 = Typed.s-seq 𝓤 H A W 𝓣 E G55 G56 b38 b41 Δ0 (Typed.ask s52) at54 (Relend.t-sl-aggregate 𝓤 H A W E c·1 𝓣 (Relend.asMut c·1) G55 23 24 9 y·7 y·7 (λ x. x) (Scalar.oFld
+          d54 : Typed.Typed 𝓤 H A 𝓣 E G53 b40 Δ0 at54
+          d54 = Typed.s-seq 𝓤 H A W 𝓣 E G53 G54 b36 b39 Δ0 (Typed.ask s50) at53 (Relend.t-sl-aggregate 𝓤 H A W E c·1 𝓣 (Relend.asMut c·1) G53 22 23 9 y·7 y·7 (λ x. x) (Scalar.oFld
               4 (Syntax.field 1 ∷ []) (Syntax.tyInt Syntax.w64) 8 λ v. Shared.lenV (v .0)) (Reads'.as-is 𝓤 H A (Relend.msptr c·1 y·7 9)) (Reads'.room-gone 𝓤 H A y·19)
-              (Relend.reads-owed-len 𝓤 H A W c·1 y·12 2 9 l·0 8 Path'.refl, Path'.refl) Path'.refl Path'.refl λ b o k. tt) d54
+              (Relend.reads-owed-len 𝓤 H A W c·1 y·12 2 9 l·0 8 Path'.refl, Path'.refl) Path'.refl Path'.refl λ b o k. tt) d53
 
-          d56 : Typed.Typed 𝓤 H A 𝓣 E G54 b43 Δ0 at56
-          d56 = Typed.s-seq 𝓤 H A W 𝓣 E G54 G55 b37 b42 Δ0 (Typed.give s51) at55 (Relend.t-sl-relend 𝓤 H A W E c·1 𝓣 G54 4 23 2 9 y·12 y·7 l·0 0 (λ x. x) (Reads'.as-is 𝓤 H A
-              (Mut.mslice c·1 y·12 2)) (Reads'.room-gone 𝓤 H A y·7) Path'.refl tt Path'.refl Path'.refl Path'.refl λ b o. tt) d55
+          d55 : Typed.Typed 𝓤 H A 𝓣 E G52 b41 Δ0 at55
+          d55 = Typed.s-seq 𝓤 H A W 𝓣 E G52 G53 b35 b40 Δ0 (Typed.give s49) at54 (Relend.t-sl-relend 𝓤 H A W E c·1 𝓣 G52 4 22 2 9 y·12 y·7 l·0 0 (λ x. x) (Reads'.as-is 𝓤 H A
+              (Mut.mslice c·1 y·12 2)) (Reads'.room-gone 𝓤 H A y·7) Path'.refl tt Path'.refl Path'.refl Path'.refl λ b o. tt) d54
 
-          d57 : Typed.Typed 𝓤 H A 𝓣 E G13 b43 Δ0 at56
-          d57 = Typed.g-pre 𝓤 H A W 𝓣 E G13 G54 b43 Δ0 (λ Ψ. Ψ) at56 (Lifetime.g-begin 𝓤 H A W E G13 9
-              (tt, (tt, (tt, (tt, (tt, (tt, (tt, (tt, (tt, (tt, (tt, (tt, (tt, (tt, (tt, (tt, (tt, (tt, (tt, (tt, (tt, (tt, (tt, (tt, (tt, tt)))))))))))))))))))))))))) d56
+          d56 : Typed.Typed 𝓤 H A 𝓣 E G13 b41 Δ0 at55
+          d56 = Typed.g-pre 𝓤 H A W 𝓣 E G13 G52 b41 Δ0 (λ Ψ. Ψ) at55 (Lifetime.g-begin 𝓤 H A W E G13 9
+              (tt, (tt, (tt, (tt, (tt, (tt, (tt, (tt, (tt, (tt, (tt, (tt, (tt, (tt, (tt, (tt, (tt, (tt, (tt, (tt, (tt, (tt, (tt, (tt, tt))))))))))))))))))))))))) d55
 
-          d58 : Typed.Typed 𝓤 H A 𝓣 E G12 b44 Δ0 at58
-          d58 = Typed.t-seq 𝓤 H A W 𝓣 E G12 G13 b36 b43 Δ0 at43 at56 d43 d57
+          d57 : Typed.Typed 𝓤 H A 𝓣 E G12 b42 Δ0 at57
+          d57 = Typed.t-seq 𝓤 H A W 𝓣 E G12 G13 b34 b41 Δ0 at42 at55 d42 d56
 
-          d59 : Typed.Typed 𝓤 H A 𝓣 E G11 b45 Δ0 at59
-          d59 = Typed.s-seq 𝓤 H A W 𝓣 E G11 G12 b5 b44 Δ0 (Typed.pass T11 T12 s10) at58 (Scalar.t-use 𝓤 H A W E 𝓣 G11 (Scalar.oInt Syntax.w64 0) 11 (Rows'.sc-here (Row.sInt
+          d58 : Typed.Typed 𝓤 H A 𝓣 E G11 b43 Δ0 at58
+          d58 = Typed.s-seq 𝓤 H A W 𝓣 E G11 G12 b5 b42 Δ0 (Typed.pass T11 T12 s10) at57 (Scalar.t-use 𝓤 H A W E 𝓣 G11 (Scalar.oInt Syntax.w64 0) 11 (Rows'.sc-here (Row.sInt
+              Syntax.w64)) (Syntax.tyInt Syntax.w64) (Row.valS (Row.sInt Syntax.w64)) (Row.sInt Syntax.w64 .of) tt (Reads'.room-gone 𝓤 H A (Syntax.tyInt Syntax.w64))
+              (Scalar.holds-sc 𝓤 H A W (Row.sInt Syntax.w64)) Path'.refl (λ u. Path'.refl) λ u. tt) d57
+
+          d59 : Typed.Typed 𝓤 H A 𝓣 E G10 b44 Δ0 at59
+          d59 = Typed.s-seq 𝓤 H A W 𝓣 E G10 G11 b4 b43 Δ0 (Typed.pass T10 T11 s9) at58 (Scalar.t-use 𝓤 H A W E 𝓣 G10 (Scalar.oInt Syntax.w64 0) 10 (Rows'.sc-here (Row.sInt
               Syntax.w64)) (Syntax.tyInt Syntax.w64) (Row.valS (Row.sInt Syntax.w64)) (Row.sInt Syntax.w64 .of) tt (Reads'.room-gone 𝓤 H A (Syntax.tyInt Syntax.w64))
               (Scalar.holds-sc 𝓤 H A W (Row.sInt Syntax.w64)) Path'.refl (λ u. Path'.refl) λ u. tt) d58
 
-          d60 : Typed.Typed 𝓤 H A 𝓣 E G10 b46 Δ0 at60
-          d60 = Typed.s-seq 𝓤 H A W 𝓣 E G10 G11 b4 b45 Δ0 (Typed.pass T10 T11 s9) at59 (Scalar.t-use 𝓤 H A W E 𝓣 G10 (Scalar.oInt Syntax.w64 0) 10 (Rows'.sc-here (Row.sInt
-              Syntax.w64)) (Syntax.tyInt Syntax.w64) (Row.valS (Row.sInt Syntax.w64)) (Row.sInt Syntax.w64 .of) tt (Reads'.room-gone 𝓤 H A (Syntax.tyInt Syntax.w64))
-              (Scalar.holds-sc 𝓤 H A W (Row.sInt Syntax.w64)) Path'.refl (λ u. Path'.refl) λ u. tt) d59
+          d60 : Typed.Typed 𝓤 H A 𝓣 E G9 b45 Δ0 at60
+          d60 = Typed.s-seq 𝓤 H A W 𝓣 E G9 G10 b3 b44 Δ0 (Typed.both s8) at59 (Plain.t-call-plain 𝓤 H A W 𝓣 0 ps·2 r·2 (claims· .4) (claims· .5) "inline::fresh" (known .2) E (λ pos
+              β. β) G9 tt 9 [] (Call.sub-id 𝓤 H A W (G9 .slots)) tt (Reads'.room-gone 𝓤 H A y·24) tt Path'.refl) d59
 
-          d61 : Typed.Typed 𝓤 H A 𝓣 E G9 b47 Δ0 at61
-          d61 = Typed.s-seq 𝓤 H A W 𝓣 E G9 G10 b3 b46 Δ0 (Typed.both s8) at60 (Plain.t-call-plain 𝓤 H A W 𝓣 0 ps·2 r·2 (claims· .4) (claims· .5) "inline::fresh" (known .2) E (λ pos
-              β. β) G9 tt 9 [] (Call.sub-id 𝓤 H A W (G9 .slots)) tt (Reads'.room-gone 𝓤 H A y·24) tt Path'.refl) d60
+          d61 : Typed.Typed 𝓤 H A 𝓣 E G8 b45 Δ0 at61
+          d61 = Typed.g-pre 𝓤 H A W 𝓣 E G8 G9 b45 Δ0 (Typed.pass T8 T9 s7) at60 (Scalar.g-room 𝓤 H A W E G8 13 (Syntax.tyArray (Syntax.tyInt Syntax.w8) 256) (Init.room-arr 𝓤 H A W
+              c·0 256 0 256 Path'.refl)) d60
 
-          d62 : Typed.Typed 𝓤 H A 𝓣 E G8 b47 Δ0 at62
-          d62 = Typed.g-pre 𝓤 H A W 𝓣 E G8 G9 b47 Δ0 (Typed.pass T8 T9 s7) at61 (Scalar.g-room 𝓤 H A W E G8 14 (Syntax.tyArray (Syntax.tyInt Syntax.w8) 256) (Init.room-arr 𝓤 H A W
-              c·0 256 0 256 Path'.refl)) d61
-
-          d63 : Typed.Typed 𝓤 H A 𝓣 E G7 b48 Δ0 at63
-          d63 = Typed.s-seq 𝓤 H A W 𝓣 E G7 G8 b2 b47 Δ0 (Typed.pass T7 T8 s6) at62 (LocalCopy.t-val-copy 𝓤 H A W E 𝓣 (λ ρ. Unit) G7 14 8 (Array'.Array c·0 256) (Syntax.tyArray
+          d62 : Typed.Typed 𝓤 H A 𝓣 E G7 b46 Δ0 at62
+          d62 = Typed.s-seq 𝓤 H A W 𝓣 E G7 G8 b2 b45 Δ0 (Typed.pass T7 T8 s6) at61 (LocalCopy.t-val-copy 𝓤 H A W E 𝓣 (λ ρ. Unit) G7 13 8 (Array'.Array c·0 256) (Syntax.tyArray
               (Syntax.tyInt Syntax.w8) 256) (Syntax.tyArray (Syntax.tyInt Syntax.w8) 256) (Rows.arrF c·0 256 0) (Rows.arrF c·0 256 0) (λ x. x) (λ x. x) (λ x. x) Path'.refl
               (Own.told-none 𝓤 H A (G7 .slots)) (Yields.yields-copy 𝓤 H A W (λ ρ. Unit) (Array'.Array c·0 256) Path'.refl (Copies.cArr c·0 (Copies.cRf (Referent.fInt Syntax.w8))
               256 .copy 𝓤 H A W) (Rows.arrF c·0 256 0) (λ x. x) (λ x. x) (λ ρ told. Whole.mem-arr 𝓤 H A W c·0 256 ρ) λ ρ told. Whole.arr-mem 𝓤 H A W c·0 256 tt ρ) (Reads'.room-gone
               𝓤 H A (Syntax.tyArray (Syntax.tyInt Syntax.w8) 256)) (Yields.makes-mem 𝓤 H A W (λ ρ. Unit) (Array'.Array c·0 256) Path'.refl (Rows.arrF c·0 256 0) (λ x. x) λ ρ told.
-              Whole.arr-mem 𝓤 H A W c·0 256 tt ρ) Path'.refl Path'.refl) d62
+              Whole.arr-mem 𝓤 H A W c·0 256 tt ρ) Path'.refl Path'.refl) d61
 
-          d64 : Typed.Typed 𝓤 H A 𝓣 E G6 b49 Δ0 at64
-          d64 = Typed.s-seq 𝓤 H A W 𝓣 E G6 G7 b1 b48 Δ0 (Typed.both s5) at63 (Plain.t-call-plain 𝓤 H A W 𝓣 0 ps·1 r·1 (claims· .2) (claims· .3) "classes::table::classes" (known .1)
-              E (λ pos β. β) G6 tt 14 [] (Call.sub-id 𝓤 H A W (G6 .slots)) tt (Reads'.room-gone 𝓤 H A (Syntax.tyArray (Syntax.tyInt Syntax.w8) 256)) tt Path'.refl) d63
+          d63 : Typed.Typed 𝓤 H A 𝓣 E G6 b47 Δ0 at63
+          d63 = Typed.s-seq 𝓤 H A W 𝓣 E G6 G7 b1 b46 Δ0 (Typed.both s5) at62 (Plain.t-call-plain 𝓤 H A W 𝓣 0 ps·1 r·1 (claims· .2) (claims· .3) "classes::table::classes" (known .1)
+              E (λ pos β. β) G6 tt 13 [] (Call.sub-id 𝓤 H A W (G6 .slots)) tt (Reads'.room-gone 𝓤 H A (Syntax.tyArray (Syntax.tyInt Syntax.w8) 256)) tt Path'.refl) d62
 
-          d65 : Typed.Typed 𝓤 H A 𝓣 E G0 b50 Δ0 at65
-          d65 = Typed.s-seq 𝓤 H A W 𝓣 E G0 G6 b0 b49 Δ0 (Typed.both s4) at64 (Plain.t-call-plain 𝓤 H A W 𝓣 1 ps·0 r·0 (claims· .0) (claims· .1) "records::line_count" (known .0) E
+          d64 : Typed.Typed 𝓤 H A 𝓣 E G0 b48 Δ0 at64
+          d64 = Typed.s-seq 𝓤 H A W 𝓣 E G0 G6 b0 b47 Δ0 (Typed.both s4) at63 (Plain.t-call-plain 𝓤 H A W 𝓣 1 ps·0 r·0 (claims· .0) (claims· .1) "records::line_count" (known .0) E
               (λ pos β. β) G0 (record { pos = 2; ty = y·11; ref = λ x. x }, tt) 7 (1 ∷ []) (Call.sub-id 𝓤 H A W (G0 .slots))
               (ShrSlice.spares-sslice 𝓤 H A W Kept′.row y·11 1, Shared.reads-sslice 𝓤 H A W Kept′.row y·11 1, Path'.refl, tt) (Reads'.room-gone 𝓤 H A (Syntax.tyInt Syntax.w64))
-              (tt, tt) Path'.refl) d64
+              (tt, tt) Path'.refl) d63
 
-          d66 : Typed.Typed 𝓤 H A 𝓣 E G0 b50 Δ0 at66
-          d66 = Typed.g-pre 𝓤 H A W 𝓣 E G0 G0 b50 Δ0 (Typed.give s3) at65 (Know.g-sl-known 𝓤 H A W (Referent.fInt Syntax.w8) E G0 6 4 y·14 l·2 0 (λ x. x)
-              record { fits = Dec'.lit< tt } (Reads'.as-is 𝓤 H A (Mut.mslice c·0 y·14 4)) Path'.refl tt) d65
+          d65 : Typed.Typed 𝓤 H A 𝓣 E G0 b48 Δ0 at65
+          d65 = Typed.g-pre 𝓤 H A W 𝓣 E G0 G0 b48 Δ0 (Typed.give s3) at64 (Know.g-sl-known 𝓤 H A W (Referent.fInt Syntax.w8) E G0 6 4 y·14 l·2 0 (λ x. x)
+              record { fits = Dec'.lit< tt } (Reads'.as-is 𝓤 H A (Mut.mslice c·0 y·14 4)) Path'.refl tt) d64
 
-          d67 : Typed.Typed 𝓤 H A 𝓣 E G0 b50 Δ0 at67
-          d67 = Typed.g-pre 𝓤 H A W 𝓣 E G0 G0 b50 Δ0 (Typed.give s2) at66 (Know.g-sl-known 𝓤 H A W (Referent.fInt Syntax.w32) E G0 5 3 y·13 l·1 0 (λ x. x)
-              record { fits = Dec'.lit< tt } (Reads'.as-is 𝓤 H A (Mut.mslice c·1 y·13 3)) Path'.refl tt) d66
+          d66 : Typed.Typed 𝓤 H A 𝓣 E G0 b48 Δ0 at66
+          d66 = Typed.g-pre 𝓤 H A W 𝓣 E G0 G0 b48 Δ0 (Typed.give s2) at65 (Know.g-sl-known 𝓤 H A W (Referent.fInt Syntax.w32) E G0 5 3 y·13 l·1 0 (λ x. x)
+              record { fits = Dec'.lit< tt } (Reads'.as-is 𝓤 H A (Mut.mslice c·1 y·13 3)) Path'.refl tt) d65
 
-          d68 : Typed.Typed 𝓤 H A 𝓣 E G0 b50 Δ0 at68
-          d68 = Typed.g-pre 𝓤 H A W 𝓣 E G0 G0 b50 Δ0 (Typed.give s1) at67 (Know.g-sl-known 𝓤 H A W (Referent.fInt Syntax.w32) E G0 4 2 y·12 l·0 0 (λ x. x)
-              record { fits = Dec'.lit< tt } (Reads'.as-is 𝓤 H A (Mut.mslice c·1 y·12 2)) Path'.refl tt) d67
+          d67 : Typed.Typed 𝓤 H A 𝓣 E G0 b48 Δ0 at67
+          d67 = Typed.g-pre 𝓤 H A W 𝓣 E G0 G0 b48 Δ0 (Typed.give s1) at66 (Know.g-sl-known 𝓤 H A W (Referent.fInt Syntax.w32) E G0 4 2 y·12 l·0 0 (λ x. x)
+              record { fits = Dec'.lit< tt } (Reads'.as-is 𝓤 H A (Mut.mslice c·1 y·12 2)) Path'.refl tt) d66
 
-          d69 : Typed.Typed 𝓤 H A 𝓣 E G0 b50 Δ0 at69
-          d69 = Typed.g-pre 𝓤 H A W 𝓣 E G0 G0 b50 Δ0 (Typed.give s0) at68 (Know.g-shs-known 𝓤 H A W (Referent.fInt Syntax.w8) E G0 1 0 y·10 l·3 0 (λ x. x)
-              record { fits = Dec'.lit< tt } (Reads'.as-is 𝓤 H A (Rows'.sslice c·0 y·10 0)) Path'.refl tt) d68
+          d68 : Typed.Typed 𝓤 H A 𝓣 E G0 b48 Δ0 at68
+          d68 = Typed.g-pre 𝓤 H A W 𝓣 E G0 G0 b48 Δ0 (Typed.give s0) at67 (Know.g-shs-known 𝓤 H A W (Referent.fInt Syntax.w8) E G0 1 0 y·10 l·3 0 (λ x. x)
+              record { fits = Dec'.lit< tt } (Reads'.as-is 𝓤 H A (Rows'.sslice c·0 y·10 0)) Path'.refl tt) d67
 
-          pub typed : Typed.Typed 𝓤 H A 𝓣 E (Function.Γin 5 ps r xs m κs qs) b50 (Function.Δret 5 ps r xs m κs qs) Φ
-          typed = d69
+          pub typed : Typed.Typed 𝓤 H A 𝓣 E (Function.Γin 5 ps r xs m κs qs) b48 (Function.Δret 5 ps r xs m κs qs) Φ
+          typed = d68
 
       module _ (κs : Lifetimes.Lfts 5) where
         pub record Args : Type 0 where
@@ -2139,7 +2094,7 @@ module _ (claims· : Claims) where
       m11 = λ before given. s10 (m10 before given)
 
       abbrev W1 : (before : After-classes) → (given : s8 .gives (m8 (before .before) (After-classes·gave before))) → Typed.Want O1
-      W1 = λ before given. Typed.wantNext T13 O0 (at56 (W0 (before .before .before .before .before .before .before .κs) (before .before .before .before .before .before .before
+      W1 = λ before given. Typed.wantNext T13 O0 (at55 (W0 (before .before .before .before .before .before .before .κs) (before .before .before .before .before .before .before
           .args))) (W0 (before .before .before .before .before .before .before .κs) (before .before .before .before .before .before .before .args))
 
       abbrev W2 : (before : After-classes) → (given : s8 .gives (m8 (before .before) (After-classes·gave before))) → Typed.Want O2
@@ -2190,7 +2145,7 @@ module _ (claims· : Claims) where
           .locals) u) (Row.get 9 (T12 .locals) u) (Row.get 10 (T12 .locals) u) (Row.get 11 (T12 .locals) u) (vs .0) (vs .1) (vs .2) (vs .3) (vs .4) (vs .5)) (λ u vs. μ·0 (Row.get 1
           (T12 .locals) u .now) (Row.get 2 (T12 .locals) u .now) (Row.get 3 (T12 .locals) u) (Row.get 4 (T12 .locals) u .now) (Row.get 5 (T12 .locals) u .now) (Row.get 6 (T12
           .locals) u .now) (Row.get 7 (T12 .locals) u) (Row.get 8 (T12 .locals) u) (Row.get 9 (T12 .locals) u) (Row.get 10 (T12 .locals) u) (Row.get 11 (T12 .locals) u) (vs .0) (vs
-          .1) (vs .2) (vs .3) (vs .4) (vs .5)) at41 (m11 (before .before) (After-fresh·gave before)) (queue, openers, labels, p, end, i)) (W2 (before .before) (After-fresh·gave
+          .1) (vs .2) (vs .3) (vs .4) (vs .5)) at40 (m11 (before .before) (After-fresh·gave before)) (queue, openers, labels, p, end, i)) (W2 (before .before) (After-fresh·gave
           before))
 
       abbrev pub m13 : (before : After-fresh) → (queue : List.List (Referent.rtF (Referent.fInt Syntax.w32) .Denot)) → (openers : List.List (Referent.rtF (Referent.fInt Syntax.w32)
@@ -2201,7 +2156,7 @@ module _ (claims· : Claims) where
       abbrev W4 : (before : After-fresh) → (queue : List.List (Referent.rtF (Referent.fInt Syntax.w32) .Denot)) → (openers : List.List (Referent.rtF (Referent.fInt Syntax.w32)
           .Denot)) → (labels : List.List (Referent.rtF (Referent.fInt Syntax.w8) .Denot)) → (p : Rows'.whole (Declared.row Parser.the-type) .Mod) → (end : Rows'.sc-here (Row.sInt
           Syntax.w64) .Mod) → (i : Rows'.sc-here (Row.sInt Syntax.w64) .Mod) → Typed.Want O4
-      W4 = λ before queue openers labels p end i. Typed.wantNext T15 O3 (at39 (W3 before queue openers labels p end i)) (W3 before queue openers labels p end i)
+      W4 = λ before queue openers labels p end i. Typed.wantNext T15 O3 (at38 (W3 before queue openers labels p end i)) (W3 before queue openers labels p end i)
 
       module _ (before· : After-fresh) where
         pub record At-loop·own : Type 0 where
@@ -2274,181 +2229,176 @@ module _ (claims· : Claims) where
       abbrev pub m19 : (before : In-loop) → (given : s16 .gives (m15 (before .before))) → Typed.Mo T21
       m19 = λ before given. s17 (m18 before given)
 
-      abbrev pub m20 : (before : In-loop) → (given : s16 .gives (m15 (before .before))) → Typed.Mo T22
+      abbrev pub m20 : (before : In-loop) → (given : s16 .gives (m15 (before .before))) → Typed.Mo T12
       m20 = λ before given. s18 (m19 before given)
 
-      abbrev pub m21 : (before : In-loop) → (given : s16 .gives (m15 (before .before))) → Typed.Mo T23
-      m21 = λ before given. s19 (m20 before given)
+      abbrev pub m21 : (before : After-line-at) → (given : s20 .gives (m20 (before .before) (After-line-at·gave before))) → Typed.Mo T24
+      m21 = λ before given. s20 .next (m20 (before .before) (After-line-at·gave before)) given
 
-      abbrev pub m22 : (before : After-line-at) → (given : s21 .gives (m21 (before .before) (After-line-at·gave before))) → Typed.Mo T25
-      m22 = λ before given. s21 .next (m21 (before .before) (After-line-at·gave before)) given
-
-      abbrev pub m23 : (before : After-line-at) → (given : s21 .gives (m21 (before .before) (After-line-at·gave before))) → Typed.Mo T26
-      m23 = λ before given. s22 .next (m22 before given)
+      abbrev pub m22 : (before : After-line-at) → (given : s20 .gives (m20 (before .before) (After-line-at·gave before))) → Typed.Mo T25
+      m22 = λ before given. s21 .next (m21 before given)
 
       module _ (before· : After-line-at) where
-        pub record After-feed-line-arg·own : Type 0 where
-          pub given : s21 .gives (m21 (before· .before) (After-line-at·gave before·))
+        pub record After-parse-line-arg·own : Type 0 where
+          pub given : s20 .gives (m20 (before· .before) (After-line-at·gave before·))
 
-      pub record After-feed-line-arg : Type 0 where
+      pub record After-parse-line-arg : Type 0 where
         pub before : After-line-at
-        pub feed-line-arg : After-feed-line-arg·own before
+        pub parse-line-arg : After-parse-line-arg·own before
 
-      abbrev pub m24 : (before : After-feed-line-arg) → (given : s24 .gives (m23 (before .before) (before .feed-line-arg .given))) → Typed.Mo T28
-      m24 = λ before given. s24 .next (m23 (before .before) (before .feed-line-arg .given)) given
+      abbrev pub m23 : (before : After-parse-line-arg) → (given : s23 .gives (m22 (before .before) (before .parse-line-arg .given))) → Typed.Mo T27
+      m23 = λ before given. s23 .next (m22 (before .before) (before .parse-line-arg .given)) given
 
-      abbrev pub m25 : (before : After-feed-line-arg) → (given : s24 .gives (m23 (before .before) (before .feed-line-arg .given))) → Typed.Mo T29
-      m25 = λ before given. s25 .next (m24 before given)
+      abbrev pub m24 : (before : After-parse-line-arg) → (given : s23 .gives (m22 (before .before) (before .parse-line-arg .given))) → Typed.Mo T28
+      m24 = λ before given. s24 .next (m23 before given)
 
-      module _ (before· : After-feed-line-arg) where
-        pub record After-feed-line-arg2·own : Type 0 where
-          pub given : s24 .gives (m23 (before· .before) (before· .feed-line-arg .given))
+      module _ (before· : After-parse-line-arg) where
+        pub record After-parse-line-arg2·own : Type 0 where
+          pub given : s23 .gives (m22 (before· .before) (before· .parse-line-arg .given))
 
-      pub record After-feed-line-arg2 : Type 0 where
-        pub before : After-feed-line-arg
-        pub feed-line-arg2 : After-feed-line-arg2·own before
+      pub record After-parse-line-arg2 : Type 0 where
+        pub before : After-parse-line-arg
+        pub parse-line-arg2 : After-parse-line-arg2·own before
 
-      abbrev pub m26 : (before : After-feed-line-arg2) → (given : s27 .gives (m25 (before .before) (before .feed-line-arg2 .given))) → Typed.Mo T31
-      m26 = λ before given. s27 .next (m25 (before .before) (before .feed-line-arg2 .given)) given
+      abbrev pub m25 : (before : After-parse-line-arg2) → (given : s26 .gives (m24 (before .before) (before .parse-line-arg2 .given))) → Typed.Mo T30
+      m25 = λ before given. s26 .next (m24 (before .before) (before .parse-line-arg2 .given)) given
 
-      abbrev pub m27 : (before : After-feed-line-arg2) → (given : s27 .gives (m25 (before .before) (before .feed-line-arg2 .given))) → Typed.Mo T32
-      m27 = λ before given. s28 .next (m26 before given)
+      abbrev pub m26 : (before : After-parse-line-arg2) → (given : s26 .gives (m24 (before .before) (before .parse-line-arg2 .given))) → Typed.Mo T31
+      m26 = λ before given. s27 .next (m25 before given)
 
-      module _ (before· : After-feed-line-arg2) where
-        pub record After-feed-line-arg3·own : Type 0 where
-          pub given : s27 .gives (m25 (before· .before) (before· .feed-line-arg2 .given))
+      module _ (before· : After-parse-line-arg2) where
+        pub record After-parse-line-arg3·own : Type 0 where
+          pub given : s26 .gives (m24 (before· .before) (before· .parse-line-arg2 .given))
 
-      pub record After-feed-line-arg3 : Type 0 where
-        pub before : After-feed-line-arg2
-        pub feed-line-arg3 : After-feed-line-arg3·own before
+      pub record After-parse-line-arg3 : Type 0 where
+        pub before : After-parse-line-arg2
+        pub parse-line-arg3 : After-parse-line-arg3·own before
 
-      abbrev pub m28 : (before : After-feed-line-arg3) → (given : s30 .gives (m27 (before .before) (before .feed-line-arg3 .given))) → Typed.Mo T34
-      m28 = λ before given. s30 .next (m27 (before .before) (before .feed-line-arg3 .given)) given
+      abbrev pub m27 : (before : After-parse-line-arg3) → (given : s29 .gives (m26 (before .before) (before .parse-line-arg3 .given))) → Typed.Mo T33
+      m27 = λ before given. s29 .next (m26 (before .before) (before .parse-line-arg3 .given)) given
 
-      module _ (before· : After-feed-line-arg3) where
+      module _ (before· : After-parse-line-arg3) where
         pub record After-flags·own : Type 0 where
-          pub given : s30 .gives (m27 (before· .before) (before· .feed-line-arg3 .given))
+          pub given : s29 .gives (m26 (before· .before) (before· .parse-line-arg3 .given))
 
       pub record After-flags : Type 0 where
-        pub before : After-feed-line-arg3
+        pub before : After-parse-line-arg3
         pub flags : After-flags·own before
 
-      abbrev pub Need-feed-line-requires : Type 0
-      Need-feed-line-requires = (c : After-flags) → s31 .asks (m28 (c .before) (c .flags .given))
+      abbrev pub Need-parse-line-requires : Type 0
+      Need-parse-line-requires = (c : After-flags) → s30 .asks (m27 (c .before) (c .flags .given))
 
-      abbrev pub m29 : (before : After-flags) → (given : s31 .gives (m28 (before .before) (before .flags .given))) → Typed.Mo T35
-      m29 = λ before given. s31 .next (m28 (before .before) (before .flags .given)) given
+      abbrev pub m28 : (before : After-flags) → (given : s30 .gives (m27 (before .before) (before .flags .given))) → Typed.Mo T34
+      m28 = λ before given. s30 .next (m27 (before .before) (before .flags .given)) given
 
       module _ (before· : After-flags) where
-        abbrev pub After-feed-line·own : Type 0
-        After-feed-line·own = Called.Called ps·4 r·4 (claims· .9) T34 a·2 (m28 (before· .before) (before· .flags .given))
+        abbrev pub After-parse-line·own : Type 0
+        After-parse-line·own = Called.Called ps·4 r·4 (claims· .9) T33 a·2 (m27 (before· .before) (before· .flags .given))
 
-      pub record After-feed-line : Type 0 where
+      pub record After-parse-line : Type 0 where
         pub before : After-flags
-        pub feed-line : After-feed-line·own before
+        pub parse-line : After-parse-line·own before
 
-      abbrev pub After-feed-line·gave : (c : After-feed-line) → s31 .gives (m28 (c .before .before) (c .before .flags .given))
-      After-feed-line·gave = λ c. Called.given ps·4 r·4 (claims· .9) T34 (
+      abbrev pub After-parse-line·gave : (c : After-parse-line) → s30 .gives (m27 (c .before .before) (c .before .flags .given))
+      After-parse-line·gave = λ c. Called.given ps·4 r·4 (claims· .9) T33 (
         record { pos = 1; ty = y·10; ref = λ x. x },
         (
-          Num.vAt 13 λ x. x,
+          record { pos = 2; ty = y·11; ref = λ x. x },
           (
-            Num.vAt 10 λ x. x,
+            Num.vAt 11 λ
+                x. x,
             (
               Num.vAt 3 λ x. x,
               (
                 record { pos = 9; st = []; d = 0; at = λ x. x },
                 (
-                  record { pos = 17; ty = y·7; ref = λ x. x },
-                  (record { pos = 19; ty = y·7; ref = λ x. x }, (record { pos = 21; ty = y·8; ref = λ x. x }, (record { pos = 22; ty = y·9; ref = λ x. x }, tt))),
+                  record { pos = 16; ty = y·7; ref = λ x. x },
+                  (record { pos = 18; ty = y·7; ref = λ x. x }, (record { pos = 20; ty = y·8; ref = λ x. x }, (record { pos = 21; ty = y·9; ref = λ x. x }, tt))),
                 ),
               ),
             ),
           ),
         ),
-      ) (m28 (c .before
-          .before) (c .before .flags .given)) (c .feed-line)
+      ) (m27 (c .before
+          .before) (c .before .flags .given)) (c .parse-line)
 
-      abbrev pub m30 : (before : After-flags) → (given : s31 .gives (m28 (before .before) (before .flags .given))) → Typed.Mo T36
-      m30 = λ before given. s32 (m29 before given)
+      abbrev pub m29 : (before : After-flags) → (given : s30 .gives (m27 (before .before) (before .flags .given))) → Typed.Mo T35
+      m29 = λ before given. s31 (m28 before given)
 
-      abbrev pub m31 : (before : After-feed-line) → (given : s34 .gives (m30 (before .before) (After-feed-line·gave before))) → Typed.Mo T38
-      m31 = λ before given. s34 .next (m30 (before .before) (After-feed-line·gave before)) given
+      abbrev pub m30 : (before : After-parse-line) → (given : s33 .gives (m29 (before .before) (After-parse-line·gave before))) → Typed.Mo T37
+      m30 = λ before given. s33 .next (m29 (before .before) (After-parse-line·gave before)) given
 
-      module _ (before· : After-feed-line) where
+      module _ (before· : After-parse-line) where
         pub record After-queue·own : Type 0 where
-          pub given : s34 .gives (m30 (before· .before) (After-feed-line·gave before·))
+          pub given : s33 .gives (m29 (before· .before) (After-parse-line·gave before·))
 
       pub record After-queue : Type 0 where
-        pub before : After-feed-line
+        pub before : After-parse-line
         pub queue : After-queue·own before
 
-      abbrev pub m32 : (before : After-queue) → (given : s35 .gives (m31 (before .before) (before .queue .given))) → Typed.Mo T38
-      m32 = λ before given. s35 .next (m31 (before .before) (before .queue .given)) given
+      abbrev pub m31 : (before : After-queue) → (given : s34 .gives (m30 (before .before) (before .queue .given))) → Typed.Mo T37
+      m31 = λ before given. s34 .next (m30 (before .before) (before .queue .given)) given
 
       module _ (before· : After-queue) where
         pub record After-slice-known4·own : Type 0 where
-          pub given : s35 .gives (m31 (before· .before) (before· .queue .given))
+          pub given : s34 .gives (m30 (before· .before) (before· .queue .given))
 
       pub record After-slice-known4 : Type 0 where
         pub before : After-queue
         pub slice-known4 : After-slice-known4·own before
 
-      abbrev pub m33 : (before : After-slice-known4) → (given : s38 .gives (m32 (before .before) (before .slice-known4 .given))) → Typed.Mo T42
-      m33 = λ before given. s38 .next (m32 (before .before) (before .slice-known4 .given)) given
+      abbrev pub m32 : (before : After-slice-known4) → (given : s37 .gives (m31 (before .before) (before .slice-known4 .given))) → Typed.Mo T41
+      m32 = λ before given. s37 .next (m31 (before .before) (before .slice-known4 .given)) given
 
       module _ (before· : After-slice-known4) where
         pub record After-openers·own : Type 0 where
-          pub given : s38 .gives (m32 (before· .before) (before· .slice-known4 .given))
+          pub given : s37 .gives (m31 (before· .before) (before· .slice-known4 .given))
 
       pub record After-openers : Type 0 where
         pub before : After-slice-known4
         pub openers : After-openers·own before
 
-      abbrev pub m34 : (before : After-openers) → (given : s39 .gives (m33 (before .before) (before .openers .given))) → Typed.Mo T42
-      m34 = λ before given. s39 .next (m33 (before .before) (before .openers .given)) given
+      abbrev pub m33 : (before : After-openers) → (given : s38 .gives (m32 (before .before) (before .openers .given))) → Typed.Mo T41
+      m33 = λ before given. s38 .next (m32 (before .before) (before .openers .given)) given
 
       module _ (before· : After-openers) where
         pub record After-slice-known5·own : Type 0 where
-          pub given : s39 .gives (m33 (before· .before) (before· .openers .given))
+          pub given : s38 .gives (m32 (before· .before) (before· .openers .given))
 
       pub record After-slice-known5 : Type 0 where
         pub before : After-openers
         pub slice-known5 : After-slice-known5·own before
 
-      abbrev pub m35 : (before : After-slice-known5) → (given : s42 .gives (m34 (before .before) (before .slice-known5 .given))) → Typed.Mo T46
-      m35 = λ before given. s42 .next (m34 (before .before) (before .slice-known5 .given)) given
+      abbrev pub m34 : (before : After-slice-known5) → (given : s41 .gives (m33 (before .before) (before .slice-known5 .given))) → Typed.Mo T45
+      m34 = λ before given. s41 .next (m33 (before .before) (before .slice-known5 .given)) given
 
       module _ (before· : After-slice-known5) where
         pub record After-labels·own : Type 0 where
-          pub given : s42 .gives (m34 (before· .before) (before· .slice-known5 .given))
+          pub given : s41 .gives (m33 (before· .before) (before· .slice-known5 .given))
 
       pub record After-labels : Type 0 where
         pub before : After-slice-known5
         pub labels : After-labels·own before
 
-      abbrev pub m36 : (before : After-labels) → (given : s43 .gives (m35 (before .before) (before .labels .given))) → Typed.Mo T46
-      m36 = λ before given. s43 .next (m35 (before .before) (before .labels .given)) given
+      abbrev pub m35 : (before : After-labels) → (given : s42 .gives (m34 (before .before) (before .labels .given))) → Typed.Mo T45
+      m35 = λ before given. s42 .next (m34 (before .before) (before .labels .given)) given
 
-      abbrev pub m37 : (before : After-labels) → (given : s43 .gives (m35 (before .before) (before .labels .given))) → Typed.Mo T23
-      m37 = λ before given. s46 (m36 before given)
+      abbrev pub m36 : (before : After-labels) → (given : s42 .gives (m34 (before .before) (before .labels .given))) → Typed.Mo T12
+      m36 = λ before given. s45 (m35 before given)
 
       module _ (before· : After-labels) where
         pub record After-slice-known6·own : Type 0 where
-          pub given : s43 .gives (m35 (before· .before) (before· .labels .given))
+          pub given : s42 .gives (m34 (before· .before) (before· .labels .given))
 
       pub record After-slice-known6 : Type 0 where
         pub before : After-labels
         pub slice-known6 : After-slice-known6·own before
 
       abbrev pub Need-add-i : Type 0
-      Need-add-i = (c : After-slice-known6) → s48 .asks (m37 (c .before) (c .slice-known6 .given))
+      Need-add-i = (c : After-slice-known6) → s47 .asks (m36 (c .before) (c .slice-known6 .given))
 
-      abbrev pub m38 : (before : After-labels) → (given : s43 .gives (m35 (before .before) (before .labels .given))) → Typed.Mo T23
-      m38 = λ before given. s48 .next (m37 before given)
-
-      abbrev pub m39 : (before : After-labels) → (given : s43 .gives (m35 (before .before) (before .labels .given))) → Typed.Mo T12
-      m39 = λ before given. s49 (m38 before given)
+      abbrev pub m37 : (before : After-labels) → (given : s42 .gives (m34 (before .before) (before .labels .given))) → Typed.Mo T12
+      m37 = λ before given. s47 .next (m36 before given)
 
       abbrev pub Need-loop-less : Type 0
       Need-loop-less = (c : After-slice-known6) → Nat._<_ (μ·0 (Row.get 1 (T12 .locals) (m11 (c .before .before .before .before .before .before .before .before .before .before
@@ -2470,9 +2420,9 @@ module _ (claims· : Claims) where
           .before .before .before)))) (Row.get 10 (T12 .locals) (m11 (c .before .before .before .before .before .before .before .before .before .before .before .before .before
           .before .before) (After-fresh·gave (c .before .before .before .before .before .before .before .before .before .before .before .before .before .before)))) (Row.get 11 (T12
           .locals) (m11 (c .before .before .before .before .before .before .before .before .before .before .before .before .before .before .before) (After-fresh·gave (c .before
-          .before .before .before .before .before .before .before .before .before .before .before .before .before)))) (Row.get 4 (T12 .locals) (m39 (c .before) (c .slice-known6
-          .given)) .now) (Row.get 5 (T12 .locals) (m39 (c .before) (c .slice-known6 .given)) .now) (Row.get 6 (T12 .locals) (m39 (c .before) (c .slice-known6 .given)) .now)
-          (Row.get 9 (T12 .locals) (m39 (c .before) (c .slice-known6 .given))) (Row.get 10 (T12 .locals) (m39 (c .before) (c .slice-known6 .given))) (Row.get 11 (T12 .locals) (m39
+          .before .before .before .before .before .before .before .before .before .before .before .before .before)))) (Row.get 4 (T12 .locals) (m37 (c .before) (c .slice-known6
+          .given)) .now) (Row.get 5 (T12 .locals) (m37 (c .before) (c .slice-known6 .given)) .now) (Row.get 6 (T12 .locals) (m37 (c .before) (c .slice-known6 .given)) .now)
+          (Row.get 9 (T12 .locals) (m37 (c .before) (c .slice-known6 .given))) (Row.get 10 (T12 .locals) (m37 (c .before) (c .slice-known6 .given))) (Row.get 11 (T12 .locals) (m37
           (c .before) (c .slice-known6 .given)))) (μ·0 (Row.get 1 (T12 .locals) (m11 (c .before .before .before .before .before .before .before .before .before .before .before
           .before .before .before .before) (After-fresh·gave (c .before .before .before .before .before .before .before .before .before .before .before .before .before .before)))
           .now) (Row.get 2 (T12 .locals) (m11 (c .before .before .before .before .before .before .before .before .before .before .before .before .before .before .before)
@@ -2518,93 +2468,93 @@ module _ (claims· : Claims) where
           .before .before .before)))) (Row.get 10 (T12 .locals) (m11 (c .before .before .before .before .before .before .before .before .before .before .before .before .before
           .before .before) (After-fresh·gave (c .before .before .before .before .before .before .before .before .before .before .before .before .before .before)))) (Row.get 11 (T12
           .locals) (m11 (c .before .before .before .before .before .before .before .before .before .before .before .before .before .before .before) (After-fresh·gave (c .before
-          .before .before .before .before .before .before .before .before .before .before .before .before .before)))) (Row.get 4 (T12 .locals) (m39 (c .before) (c .slice-known6
-          .given)) .now) (Row.get 5 (T12 .locals) (m39 (c .before) (c .slice-known6 .given)) .now) (Row.get 6 (T12 .locals) (m39 (c .before) (c .slice-known6 .given)) .now)
-          (Row.get 9 (T12 .locals) (m39 (c .before) (c .slice-known6 .given))) (Row.get 10 (T12 .locals) (m39 (c .before) (c .slice-known6 .given))) (Row.get 11 (T12 .locals) (m39
+          .before .before .before .before .before .before .before .before .before .before .before .before .before)))) (Row.get 4 (T12 .locals) (m37 (c .before) (c .slice-known6
+          .given)) .now) (Row.get 5 (T12 .locals) (m37 (c .before) (c .slice-known6 .given)) .now) (Row.get 6 (T12 .locals) (m37 (c .before) (c .slice-known6 .given)) .now)
+          (Row.get 9 (T12 .locals) (m37 (c .before) (c .slice-known6 .given))) (Row.get 10 (T12 .locals) (m37 (c .before) (c .slice-known6 .given))) (Row.get 11 (T12 .locals) (m37
           (c .before) (c .slice-known6 .given)))
 
-      abbrev pub m40 : (before : After-loop) → (given : s51 .gives (m17 (before .before))) → Typed.Mo T55
-      m40 = λ before given. s51 .next (m17 (before .before)) given
+      abbrev pub m38 : (before : After-loop) → (given : s49 .gives (m17 (before .before))) → Typed.Mo T53
+      m38 = λ before given. s49 .next (m17 (before .before)) given
 
-      abbrev pub m41 : (before : After-loop) → (given : s51 .gives (m17 (before .before))) → Typed.Mo T56
-      m41 = λ before given. s52 .next (m40 before given)
+      abbrev pub m39 : (before : After-loop) → (given : s49 .gives (m17 (before .before))) → Typed.Mo T54
+      m39 = λ before given. s50 .next (m38 before given)
 
       module _ (before· : After-loop) where
         pub record After-finish-arg·own : Type 0 where
-          pub given : s51 .gives (m17 (before· .before))
+          pub given : s49 .gives (m17 (before· .before))
 
       pub record After-finish-arg : Type 0 where
         pub before : After-loop
         pub finish-arg : After-finish-arg·own before
 
       abbrev pub Need-finish-requires : Type 0
-      Need-finish-requires = (c : After-finish-arg) → s53 .asks (m41 (c .before) (c .finish-arg .given))
+      Need-finish-requires = (c : After-finish-arg) → s51 .asks (m39 (c .before) (c .finish-arg .given))
 
-      abbrev pub m42 : (before : After-finish-arg) → (given : s53 .gives (m41 (before .before) (before .finish-arg .given))) → Typed.Mo T57
-      m42 = λ before given. s53 .next (m41 (before .before) (before .finish-arg .given)) given
+      abbrev pub m40 : (before : After-finish-arg) → (given : s51 .gives (m39 (before .before) (before .finish-arg .given))) → Typed.Mo T55
+      m40 = λ before given. s51 .next (m39 (before .before) (before .finish-arg .given)) given
 
       module _ (before· : After-finish-arg) where
         abbrev pub After-finish·own : Type 0
-        After-finish·own = Called.Called ps·5 r·5 (claims· .11) T56 a·3 (m41 (before· .before) (before· .finish-arg .given))
+        After-finish·own = Called.Called ps·5 r·5 (claims· .11) T54 a·3 (m39 (before· .before) (before· .finish-arg .given))
 
       pub record After-finish : Type 0 where
         pub before : After-finish-arg
         pub finish : After-finish·own before
 
-      abbrev pub After-finish·gave : (c : After-finish) → s53 .gives (m41 (c .before .before) (c .before .finish-arg .given))
-      After-finish·gave = λ c. Called.given ps·5 r·5 (claims· .11) T56
-          (Num.vAt 10 λ x. x, (record { pos = 9; st = []; d = 0; at = λ x. x }, (record { pos = 24; ty = y·7; ref = λ x. x }, tt))) (m41 (c .before .before) (c .before .finish-arg
+      abbrev pub After-finish·gave : (c : After-finish) → s51 .gives (m39 (c .before .before) (c .before .finish-arg .given))
+      After-finish·gave = λ c. Called.given ps·5 r·5 (claims· .11) T54
+          (Num.vAt 10 λ x. x, (record { pos = 9; st = []; d = 0; at = λ x. x }, (record { pos = 23; ty = y·7; ref = λ x. x }, tt))) (m39 (c .before .before) (c .before .finish-arg
           .given)) (c .finish)
 
-      abbrev pub m43 : (before : After-finish-arg) → (given : s53 .gives (m41 (before .before) (before .finish-arg .given))) → Typed.Mo T58
+      abbrev pub m41 : (before : After-finish-arg) → (given : s51 .gives (m39 (before .before) (before .finish-arg .given))) → Typed.Mo T56
+      m41 = λ before given. s52 (m40 before given)
+
+      abbrev pub m42 : (before : After-finish-arg) → (given : s51 .gives (m39 (before .before) (before .finish-arg .given))) → Typed.Mo T57
+      m42 = λ before given. s53 (m41 before given)
+
+      abbrev pub m43 : (before : After-finish-arg) → (given : s51 .gives (m39 (before .before) (before .finish-arg .given))) → Typed.Mo T58
       m43 = λ before given. s54 (m42 before given)
 
-      abbrev pub m44 : (before : After-finish-arg) → (given : s53 .gives (m41 (before .before) (before .finish-arg .given))) → Typed.Mo T59
+      abbrev pub m44 : (before : After-finish-arg) → (given : s51 .gives (m39 (before .before) (before .finish-arg .given))) → Typed.Mo T59
       m44 = λ before given. s55 (m43 before given)
 
-      abbrev pub m45 : (before : After-finish-arg) → (given : s53 .gives (m41 (before .before) (before .finish-arg .given))) → Typed.Mo T60
-      m45 = λ before given. s56 (m44 before given)
-
-      abbrev pub m46 : (before : After-finish-arg) → (given : s53 .gives (m41 (before .before) (before .finish-arg .given))) → Typed.Mo T61
-      m46 = λ before given. s57 (m45 before given)
-
-      abbrev pub m47 : (before : After-finish) → (given : s59 .gives (m46 (before .before) (After-finish·gave before))) → Typed.Mo T63
-      m47 = λ before given. s59 .next (m46 (before .before) (After-finish·gave before)) given
+      abbrev pub m45 : (before : After-finish) → (given : s57 .gives (m44 (before .before) (After-finish·gave before))) → Typed.Mo T61
+      m45 = λ before given. s57 .next (m44 (before .before) (After-finish·gave before)) given
 
       module _ (before· : After-finish) where
         pub record After-queue2·own : Type 0 where
-          pub given : s59 .gives (m46 (before· .before) (After-finish·gave before·))
+          pub given : s57 .gives (m44 (before· .before) (After-finish·gave before·))
 
       pub record After-queue2 : Type 0 where
         pub before : After-finish
         pub queue2 : After-queue2·own before
 
-      abbrev pub m48 : (before : After-queue2) → (given : s60 .gives (m47 (before .before) (before .queue2 .given))) → Typed.Mo T63
-      m48 = λ before given. s60 .next (m47 (before .before) (before .queue2 .given)) given
+      abbrev pub m46 : (before : After-queue2) → (given : s58 .gives (m45 (before .before) (before .queue2 .given))) → Typed.Mo T61
+      m46 = λ before given. s58 .next (m45 (before .before) (before .queue2 .given)) given
 
-      abbrev pub m49 : (before : After-queue2) → (given : s60 .gives (m47 (before .before) (before .queue2 .given))) → Typed.Mo T1
-      m49 = λ before given. s62 (m48 before given)
+      abbrev pub m47 : (before : After-queue2) → (given : s58 .gives (m45 (before .before) (before .queue2 .given))) → Typed.Mo T1
+      m47 = λ before given. s60 (m46 before given)
 
       module _ (before· : After-queue2) where
         pub record After-slice-known7·own : Type 0 where
-          pub given : s60 .gives (m47 (before· .before) (before· .queue2 .given))
+          pub given : s58 .gives (m45 (before· .before) (before· .queue2 .given))
 
       pub record After-slice-known7 : Type 0 where
         pub before : After-queue2
         pub slice-known7 : After-slice-known7·own before
 
       abbrev pub Need-same-length : Type 0
-      Need-same-length = (c : After-slice-known7) → MutSlice.SameLen (Row.get 4 (T1 .locals) (m49 (c .before) (c .slice-known7 .given))) (dens (c .before .before .before .before
+      Need-same-length = (c : After-slice-known7) → MutSlice.SameLen (Row.get 4 (T1 .locals) (m47 (c .before) (c .slice-known7 .given))) (dens (c .before .before .before .before
           .before .before .before .before .before .before .before .before .before .κs) (c .before .before .before .before .before .before .before .before .before .before .before
           .before .before .args) .1 .1 .1 .0)
 
       abbrev pub Need-same-length-2 : Type 0
-      Need-same-length-2 = (c : After-slice-known7) → MutSlice.SameLen (Row.get 5 (T1 .locals) (m49 (c .before) (c .slice-known7 .given))) (dens (c .before .before .before .before
+      Need-same-length-2 = (c : After-slice-known7) → MutSlice.SameLen (Row.get 5 (T1 .locals) (m47 (c .before) (c .slice-known7 .given))) (dens (c .before .before .before .before
           .before .before .before .before .before .before .before .before .before .κs) (c .before .before .before .before .before .before .before .before .before .before .before
           .before .before .args) .1 .1 .1 .1 .0)
 
       abbrev pub Need-same-length-3 : Type 0
-      Need-same-length-3 = (c : After-slice-known7) → MutSlice.SameLen (Row.get 6 (T1 .locals) (m49 (c .before) (c .slice-known7 .given))) (dens (c .before .before .before .before
+      Need-same-length-3 = (c : After-slice-known7) → MutSlice.SameLen (Row.get 6 (T1 .locals) (m47 (c .before) (c .slice-known7 .given))) (dens (c .before .before .before .before
           .before .before .before .before .before .before .before .before .before .κs) (c .before .before .before .before .before .before .before .before .before .before .before
           .before .before .args) .1 .1 .1 .1 .1 .0)
 
@@ -2612,19 +2562,19 @@ module _ (claims· : Claims) where
       Need-returns = (c : After-slice-known7) → Post· (c .before .before .before .before .before .before .before .before .before .before .before .before .before .κs) (dens (c
           .before .before .before .before .before .before .before .before .before .before .before .before .before .κs) (c .before .before .before .before .before .before .before
           .before .before .before .before .before .before .args)) (Function.resV r (c .before .before .before .before .before .before .before .before .before .before .before
-          .before .before .κs) (m49 (c .before) (c .slice-known7 .given) .0)) (Clauses.atExit (Kinds.endedOf 5 ps r) (c .before .before .before .before .before .before .before
+          .before .before .κs) (m47 (c .before) (c .slice-known7 .given) .0)) (Clauses.atExit (Kinds.endedOf 5 ps r) (c .before .before .before .before .before .before .before
           .before .before .before .before .before .before .κs) (dens (c .before .before .before .before .before .before .before .before .before .before .before .before .before .κs)
           (c .before .before .before .before .before .before .before .before .before .before .before .before .before .args)) (Enter.lastsP (c .before .before .before .before
           .before .before .before .before .before .before .before .before .before .κs) 1 ps xs (dens (c .before .before .before .before .before .before .before .before .before
-          .before .before .before .before .κs) (c .before .before .before .before .before .before .before .before .before .before .before .before .before .args)) (m49 (c .before)
+          .before .before .before .before .κs) (c .before .before .before .before .before .before .before .before .before .before .before .before .before .args)) (m47 (c .before)
           (c .slice-known7 .given) .1)))
 
       module _ (line-count-requires : Need-line-count-requires) (classes-requires : Need-classes-requires) (fresh-requires : Need-fresh-requires) (loop-holds : Need-loop-holds)
-          (line-at-requires : Need-line-at-requires) (feed-line-requires : Need-feed-line-requires) (add-i : Need-add-i) (loop-less : Need-loop-less) (loop-again : Need-loop-again)
-          (finish-requires : Need-finish-requires) (same-length : Need-same-length) (same-length-2 : Need-same-length-2) (same-length-3 : Need-same-length-3) (returns :
-          Need-returns) where
-        lay10 : (c : After-finish) → at53 (W0 (c .before .before .before .before .before .before .before .before .before .before .before .κs) (c .before .before .before .before
-            .before .before .before .before .before .before .before .args)) (m42 (c .before) (After-finish·gave c))
+          (line-at-requires : Need-line-at-requires) (parse-line-requires : Need-parse-line-requires) (add-i : Need-add-i) (loop-less : Need-loop-less) (loop-again :
+          Need-loop-again) (finish-requires : Need-finish-requires) (same-length : Need-same-length) (same-length-2 : Need-same-length-2) (same-length-3 : Need-same-length-3)
+          (returns : Need-returns) where
+        lay10 : (c : After-finish) → at52 (W0 (c .before .before .before .before .before .before .before .before .before .before .before .κs) (c .before .before .before .before
+            .before .before .before .before .before .before .before .args)) (m40 (c .before) (After-finish·gave c))
         lay10 = λ c. (
           Path'.refl,
           λ g. let k1 : After-queue2 = record { before = c; queue2 = record { given = g } } in λ g'. let k2 : After-slice-known7 =
@@ -2636,16 +2586,16 @@ module _ (claims· : Claims) where
                     (
                       tt,
                       (
-                        MutSlice.fix-len (Row.get 4 (T1 .locals) (m49 k1 g') .ptr) (Row.get 4 (T1
-                            .locals) (m49 k1 g') .name) (Row.get 4 (T1 .locals) (m49 k1 g') .now) (dens (c .before .before .before .before .before .before .before .before .before .before .before
+                        MutSlice.fix-len (Row.get 4 (T1 .locals) (m47 k1 g') .ptr) (Row.get 4 (T1
+                            .locals) (m47 k1 g') .name) (Row.get 4 (T1 .locals) (m47 k1 g') .now) (dens (c .before .before .before .before .before .before .before .before .before .before .before
                             .κs) (c .before .before .before .before .before .before .before .before .before .before .before .args) .1 .1 .1 .0 .now) (same-length k2),
                         (
                           MutSlice.fix-len (Row.get 5
-                              (T1 .locals) (m49 k1 g') .ptr) (Row.get 5 (T1 .locals) (m49 k1 g') .name) (Row.get 5 (T1 .locals) (m49 k1 g') .now) (dens (c .before .before .before .before .before
+                              (T1 .locals) (m47 k1 g') .ptr) (Row.get 5 (T1 .locals) (m47 k1 g') .name) (Row.get 5 (T1 .locals) (m47 k1 g') .now) (dens (c .before .before .before .before .before
                               .before .before .before .before .before .before .κs) (c .before .before .before .before .before .before .before .before .before .before .before .args) .1 .1 .1 .1 .0
                               .now) (same-length-2 k2),
                           (
-                            MutSlice.fix-len (Row.get 6 (T1 .locals) (m49 k1 g') .ptr) (Row.get 6 (T1 .locals) (m49 k1 g') .name) (Row.get 6 (T1 .locals) (m49 k1 g')
+                            MutSlice.fix-len (Row.get 6 (T1 .locals) (m47 k1 g') .ptr) (Row.get 6 (T1 .locals) (m47 k1 g') .name) (Row.get 6 (T1 .locals) (m47 k1 g')
                                 .now) (dens (c .before .before .before .before .before .before .before .before .before .before .before .κs) (c .before .before .before .before .before .before .before
                                 .before .before .before .before .args) .1 .1 .1 .1 .1 .0 .now) (same-length-3 k2),
                             tt,
@@ -2659,15 +2609,15 @@ module _ (claims· : Claims) where
               ),
         )
 
-        lay9 : (c : After-loop) → at56 (W0 (c .before .before .before .before .before .before .before .before .before .κs) (c .before .before .before .before .before .before
+        lay9 : (c : After-loop) → at55 (W0 (c .before .before .before .before .before .before .before .before .before .κs) (c .before .before .before .before .before .before
             .before .before .before .args)) (m17 (c .before))
         lay9 = λ c. λ g. let k1 : After-finish-arg = record { before = c; finish-arg = record { given = g } } in
-            (Path'.refl, (finish-requires k1, λ g'. lay10 record { before = k1; finish = Called.called ps·5 r·5 (claims· .11) T56 a·3 (m41 c g) g' }))
+            (Path'.refl, (finish-requires k1, λ g'. lay10 record { before = k1; finish = Called.called ps·5 r·5 (claims· .11) T54 a·3 (m39 c g) g' }))
 
-        lay8 : (c : After-feed-line) → at23 (W3 (c .before .before .before .before .before .before .before .before) (c .before .before .before .before .before .before .before .loop
-            .queue) (c .before .before .before .before .before .before .before .loop .openers) (c .before .before .before .before .before .before .before .loop .labels) (c .before
-            .before .before .before .before .before .before .loop .p) (c .before .before .before .before .before .before .before .loop .end) (c .before .before .before .before
-            .before .before .before .loop .i)) (m29 (c .before) (After-feed-line·gave c))
+        lay8 : (c : After-parse-line) → at23 (W3 (c .before .before .before .before .before .before .before .before) (c .before .before .before .before .before .before .before
+            .loop .queue) (c .before .before .before .before .before .before .before .loop .openers) (c .before .before .before .before .before .before .before .loop .labels) (c
+            .before .before .before .before .before .before .before .loop .p) (c .before .before .before .before .before .before .before .loop .end) (c .before .before .before
+            .before .before .before .before .loop .i)) (m28 (c .before) (After-parse-line·gave c))
         lay8 = λ c. (
           Path'.refl,
           λ g. let k1 : After-queue = record { before = c; queue = record { given = g } } in λ g'. let k2 : After-slice-known4 =
@@ -2693,20 +2643,20 @@ module _ (claims· : Claims) where
                                   .before .before .before .before .before) (After-fresh·gave (c .before .before .before .before .before .before .before .before)))) (Row.get 10 (T12 .locals) (m11 (c
                                   .before .before .before .before .before .before .before .before .before) (After-fresh·gave (c .before .before .before .before .before .before .before .before))))
                                   (Row.get 11 (T12 .locals) (m11 (c .before .before .before .before .before .before .before .before .before) (After-fresh·gave (c .before .before .before .before .before
-                                  .before .before .before)))) (Row.get 4 (T12 .locals) (m39 k5 g'5) .now) (Row.get 5 (T12 .locals) (m39 k5 g'5) .now) (Row.get 6 (T12 .locals) (m39 k5 g'5) .now) (Row.get
-                                  9 (T12 .locals) (m39 k5 g'5)) (Row.get 10 (T12 .locals) (m39 k5 g'5)) (Row.get 11 (T12 .locals) (m39 k5 g'5)),
+                                  .before .before .before)))) (Row.get 4 (T12 .locals) (m37 k5 g'5) .now) (Row.get 5 (T12 .locals) (m37 k5 g'5) .now) (Row.get 6 (T12 .locals) (m37 k5 g'5) .now) (Row.get
+                                  9 (T12 .locals) (m37 k5 g'5)) (Row.get 10 (T12 .locals) (m37 k5 g'5)) (Row.get 11 (T12 .locals) (m37 k5 g'5)),
                               loop-less k6,
                               (
                                 (
-                                  Row.get 4 (T12 .locals) (m39 k5 g'5)
+                                  Row.get 4 (T12 .locals) (m37 k5 g'5)
                                       .now,
-                                  Row.get 5 (T12 .locals) (m39 k5 g'5) .now,
-                                  Row.get 6 (T12 .locals) (m39 k5 g'5) .now,
-                                  Row.get 9 (T12 .locals) (m39 k5 g'5),
-                                  Row.get 10 (T12 .locals) (m39 k5 g'5),
-                                  Row.get 11 (T12 .locals) (m39 k5 g'5),
+                                  Row.get 5 (T12 .locals) (m37 k5 g'5) .now,
+                                  Row.get 6 (T12 .locals) (m37 k5 g'5) .now,
+                                  Row.get 9 (T12 .locals) (m37 k5 g'5),
+                                  Row.get 10 (T12 .locals) (m37 k5 g'5),
+                                  Row.get 11 (T12 .locals) (m37 k5 g'5),
                                 ),
-                                Path'.refl {a = m39 k5 g'5},
+                                Path'.refl {a = m37 k5 g'5},
                                 loop-again k6,
                                 Path'.refl {a = μ·0 (Row.get 1 (T12 .locals) (m11 (c .before .before .before
                                     .before .before .before .before .before .before) (After-fresh·gave (c .before .before .before .before .before .before .before .before))) .now) (Row.get 2 (T12 .locals)
@@ -2721,9 +2671,9 @@ module _ (claims· : Claims) where
                                     .before .before .before .before .before)))) (Row.get 9 (T12 .locals) (m11 (c .before .before .before .before .before .before .before .before .before) (After-fresh·gave
                                     (c .before .before .before .before .before .before .before .before)))) (Row.get 10 (T12 .locals) (m11 (c .before .before .before .before .before .before .before .before
                                     .before) (After-fresh·gave (c .before .before .before .before .before .before .before .before)))) (Row.get 11 (T12 .locals) (m11 (c .before .before .before .before
-                                    .before .before .before .before .before) (After-fresh·gave (c .before .before .before .before .before .before .before .before)))) (Row.get 4 (T12 .locals) (m39 k5 g'5)
-                                    .now) (Row.get 5 (T12 .locals) (m39 k5 g'5) .now) (Row.get 6 (T12 .locals) (m39 k5 g'5) .now) (Row.get 9 (T12 .locals) (m39 k5 g'5)) (Row.get 10 (T12 .locals) (m39 k5
-                                    g'5)) (Row.get 11 (T12 .locals) (m39 k5 g'5))},
+                                    .before .before .before .before .before) (After-fresh·gave (c .before .before .before .before .before .before .before .before)))) (Row.get 4 (T12 .locals) (m37 k5 g'5)
+                                    .now) (Row.get 5 (T12 .locals) (m37 k5 g'5) .now) (Row.get 6 (T12 .locals) (m37 k5 g'5) .now) (Row.get 9 (T12 .locals) (m37 k5 g'5)) (Row.get 10 (T12 .locals) (m37 k5
+                                    g'5)) (Row.get 11 (T12 .locals) (m37 k5 g'5))},
                               ),
                             ),
                           ),
@@ -2731,23 +2681,23 @@ module _ (claims· : Claims) where
               ),
         )
 
-        lay7 : (c : After-line-at) → at38 (W3 (c .before .before .before) (c .before .before .loop .queue) (c .before .before .loop .openers) (c .before .before .loop .labels) (c
+        lay7 : (c : After-line-at) → at37 (W3 (c .before .before .before) (c .before .before .loop .queue) (c .before .before .loop .openers) (c .before .before .loop .labels) (c
             .before .before .loop .p) (c .before .before .loop .end) (c .before .before .loop .i)) (m18 (c .before) (After-line-at·gave c))
-        lay7 = λ c. λ g. let k1 : After-feed-line-arg = record { before = c; feed-line-arg = record { given = g } } in (
+        lay7 = λ c. λ g. let k1 : After-parse-line-arg = record { before = c; parse-line-arg = record { given = g } } in (
           Path'.refl,
-          λ g'. let k2 : After-feed-line-arg2 =
-              record { before = k1; feed-line-arg2 = record { given = g' } } in (
+          λ g'. let k2 : After-parse-line-arg2 =
+              record { before = k1; parse-line-arg2 = record { given = g' } } in (
                 Path'.refl,
-                λ g''. let k3 : After-feed-line-arg3 =
-                    record { before = k2; feed-line-arg3 = record { given = g'' } } in (
+                λ g''. let k3 : After-parse-line-arg3 =
+                    record { before = k2; parse-line-arg3 = record { given = g'' } } in (
                       Path'.refl,
                       λ g'3. let k4 : After-flags = record { before = k3; flags = record { given = g'3 } } in
-                          (feed-line-requires k4, λ g'4. lay8 record { before = k4; feed-line = Called.called ps·4 r·4 (claims· .9) T34 a·2 (m28 k3 g'3) g'4 }),
+                          (parse-line-requires k4, λ g'4. lay8 record { before = k4; parse-line = Called.called ps·4 r·4 (claims· .9) T33 a·2 (m27 k3 g'3) g'4 }),
                     ),
               ),
         )
 
-        lay6 : (c : In-loop) → at39 (W3 (c .before .before) (c .before .loop .queue) (c .before .loop .openers) (c .before .loop .labels) (c .before .loop .p) (c .before .loop
+        lay6 : (c : In-loop) → at38 (W3 (c .before .before) (c .before .loop .queue) (c .before .loop .openers) (c .before .loop .labels) (c .before .loop .p) (c .before .loop
             .end) (c .before .loop .i)) (m15 (c .before))
         lay6 = λ c. (line-at-requires c, λ g. lay7 record { before = c; line-at = Called.called ps·3 r·3 (claims· .7) T15 a·1 (m15 (c .before)) g })
 
@@ -2761,7 +2711,7 @@ module _ (claims· : Claims) where
             (c .before .loop .i))
         lay4 = λ c. lay6 c
 
-        lay3 : (c : After-fresh) → at60 (W0 (c .before .before .before .before .before .before .before .κs) (c .before .before .before .before .before .before .before .args)) (m9
+        lay3 : (c : After-fresh) → at59 (W0 (c .before .before .before .before .before .before .before .κs) (c .before .before .before .before .before .before .before .args)) (m9
             (c .before) (After-fresh·gave c))
         lay3 = λ c. (
           (
@@ -2802,15 +2752,15 @@ module _ (claims· : Claims) where
               ),
         )
 
-        lay2 : (c : After-classes) → at63 (W0 (c .before .before .before .before .before .before .κs) (c .before .before .before .before .before .before .args)) (m6 (c .before)
+        lay2 : (c : After-classes) → at62 (W0 (c .before .before .before .before .before .before .κs) (c .before .before .before .before .before .before .args)) (m6 (c .before)
             (After-classes·gave c))
         lay2 = λ c. (fresh-requires c, λ g. lay3 record { before = c; fresh = Called.called ps·2 r·2 (claims· .5) T9 tt (m8 (c .before) (After-classes·gave c)) g })
 
-        lay1 : (c : After-line-count) → at64 (W0 (c .before .before .before .before .before .κs) (c .before .before .before .before .before .args)) (m5 (c .before)
+        lay1 : (c : After-line-count) → at63 (W0 (c .before .before .before .before .before .κs) (c .before .before .before .before .before .args)) (m5 (c .before)
             (After-line-count·gave c))
         lay1 = λ c. (classes-requires c, λ g. lay2 record { before = c; classes = Called.called ps·1 r·1 (claims· .3) T6 tt (m5 (c .before) (After-line-count·gave c)) g })
 
-        pub laid : (c : Start) → at69 (W0 (c .κs) (c .args)) (m0 (c .κs) (c .args))
+        pub laid : (c : Start) → at68 (W0 (c .κs) (c .args)) (m0 (c .κs) (c .args))
         laid = λ c. λ g. let k1 : After-shared-slice-known = record { before = c; shared-slice-known = record { given = g } } in λ g'. let k2 : After-slice-known =
             record { before = k1; slice-known = record { given = g' } } in λ g''. let k3 : After-slice-known2 = record { before = k2; slice-known2 = record { given = g'' } } in λ g'3.
             let k4 : After-slice-known3 = record { before = k3; slice-known3 = record { given = g'3 } } in
@@ -2832,7 +2782,7 @@ module _ (claims· : Claims) where
         module _ {M : Type 1} (𝓤 : URA.URA M) (H : Wp.Heap 𝓤) (A : Atoms.Atoms 𝓤) (W : Kit.Given 𝓤 H A) (𝓣 : Wp.Tables 𝓤 H) (known0 : Plain.Known 𝓤 H A W 𝓣 1 ps·0 r·0 (claims· .0)
             (claims· .1) "records::line_count") (known1 : Plain.Known 𝓤 H A W 𝓣 0 ps·1 r·1 (claims· .2) (claims· .3) "classes::table::classes") (known2 : Plain.Known 𝓤 H A W 𝓣 0
             ps·2 r·2 (claims· .4) (claims· .5) "inline::fresh") (known3 : Plain.Known 𝓤 H A W 𝓣 1 ps·3 r·3 (claims· .6) (claims· .7) "records::line_at") (known4 : Plain.Known 𝓤 H A
-            W 𝓣 5 ps·4 r·4 (claims· .8) (claims· .9) "inline::feed_line") (known5 : Plain.Known 𝓤 H A W 𝓣 1 ps·5 r·5 (claims· .10) (claims· .11) "inline::finish") where
+            W 𝓣 6 ps·4 r·4 (claims· .8) (claims· .9) "records::parse_line") (known5 : Plain.Known 𝓤 H A W 𝓣 1 ps·5 r·5 (claims· .10) (claims· .11) "inline::finish") where
           pub spec : Statement.Triple 𝓤 (Wp.WpFn 𝓤 H (𝓣 .C) (𝓣 .Λ) (Function.fnOf 5 ps r xs m hs body)) (Function.plainOf 𝓤 H A 5 ps r Pre· Post·)
           spec = Plain.t-fn-plain 𝓤 H A W 𝓣 5 ps r xs m hs body (λ κs qs bs. Φ) (λ κs qs bs bd. typed κs qs 𝓤 H A W 𝓣 (known0, known1, known2, known3, known4, known5) bs bd) Pre·
               Post· asked

@@ -3,25 +3,25 @@
 use Rattle.classes.proofs.classes.Met
 use Rattle.classes.proofs.classes.Reads
 use Rattle.classes.proofs.classes.Symbol
-use Rattle.inline.proofs.feed_line.Met as Met'
-use Rattle.inline.proofs.feed_line.Reads as Reads'
-use Rattle.inline.proofs.feed_line.Symbol as Symbol'
-use Rattle.inline.proofs.finish.Met as Met''
-use Rattle.inline.proofs.finish.Reads as Reads''
-use Rattle.inline.proofs.finish.Symbol as Symbol''
-use Rattle.inline.proofs.fresh.Met as Met'3
-use Rattle.inline.proofs.fresh.Reads as Reads'3
-use Rattle.inline.proofs.fresh.Symbol as Symbol'3
-use Rattle.records.proofs.line_at.Met as Met'4
-use Rattle.records.proofs.Twin.line_at.Reads as Reads'4
-use Rattle.records.proofs.line_at.Symbol as Symbol'4
-use Rattle.records.proofs.line_count.Met as Met'5
-use Rattle.records.proofs.Twin.line_count.Reads as Reads'5
-use Rattle.records.proofs.line_count.Symbol as Symbol'5
+use Rattle.inline.proofs.finish.Met as Met'
+use Rattle.inline.proofs.finish.Reads as Reads'
+use Rattle.inline.proofs.finish.Symbol as Symbol'
+use Rattle.inline.proofs.fresh.Met as Met''
+use Rattle.inline.proofs.fresh.Reads as Reads''
+use Rattle.inline.proofs.fresh.Symbol as Symbol''
+use Rattle.records.proofs.line_at.Met as Met'3
+use Rattle.records.proofs.Twin.line_at.Reads as Reads'3
+use Rattle.records.proofs.line_at.Symbol as Symbol'3
+use Rattle.records.proofs.line_count.Met as Met'4
+use Rattle.records.proofs.Twin.line_count.Reads as Reads'4
+use Rattle.records.proofs.line_count.Symbol as Symbol'4
 use Rattle.records.proofs.parse.Key
 use Rattle.records.proofs.Twin.parse.Kinds
 use Rattle.records.proofs.Twin.parse.Lts
-use Rattle.records.proofs.Twin.parse.Reads as Reads'6
+use Rattle.records.proofs.Twin.parse.Reads as Reads'5
+use Rattle.records.proofs.parse_line.Met as Met'5
+use Rattle.records.proofs.Twin.parse_line.Reads as Reads'6
+use Rattle.records.proofs.parse_line.Symbol as Symbol'5
 use borrow.Fn.Run
 use borrow.Fn.Written
 use contract.Running
@@ -63,159 +63,159 @@ MeasureT-loop = Lts.MeasureT-loop
 
 abbrev pub claims : Lts.Claims
 claims = (
-  Reads'5.Asked,
-  Reads'5.Learnt,
-  Reads.Asked,
-  Reads.Learnt,
-  Reads'3.Asked,
-  Reads'3.Learnt,
   Reads'4.Asked,
   Reads'4.Learnt,
-  Reads'.Asked,
-  Reads'.Learnt,
+  Reads.Asked,
+  Reads.Learnt,
   Reads''.Asked,
   Reads''.Learnt,
+  Reads'3.Asked,
+  Reads'3.Learnt,
+  Reads'6.Asked,
+  Reads'6.Learnt,
+  Reads'.Asked,
+  Reads'.Learnt,
 )
 
 abbrev pub Start : (Inv : InvT-loop) → (μ : MeasureT-loop) → Type 0
-Start = λ Inv μ. Lts.Start claims Reads'6.Pre Reads'6.Post Inv μ
+Start = λ Inv μ. Lts.Start claims Reads'5.Pre Reads'5.Post Inv μ
 
 abbrev pub After-shared-slice-known : (Inv : InvT-loop) → (μ : MeasureT-loop) → Type 0
-After-shared-slice-known = λ Inv μ. Lts.After-shared-slice-known claims Reads'6.Pre Reads'6.Post Inv μ
+After-shared-slice-known = λ Inv μ. Lts.After-shared-slice-known claims Reads'5.Pre Reads'5.Post Inv μ
 
 abbrev pub After-slice-known : (Inv : InvT-loop) → (μ : MeasureT-loop) → Type 0
-After-slice-known = λ Inv μ. Lts.After-slice-known claims Reads'6.Pre Reads'6.Post Inv μ
+After-slice-known = λ Inv μ. Lts.After-slice-known claims Reads'5.Pre Reads'5.Post Inv μ
 
 abbrev pub After-slice-known2 : (Inv : InvT-loop) → (μ : MeasureT-loop) → Type 0
-After-slice-known2 = λ Inv μ. Lts.After-slice-known2 claims Reads'6.Pre Reads'6.Post Inv μ
+After-slice-known2 = λ Inv μ. Lts.After-slice-known2 claims Reads'5.Pre Reads'5.Post Inv μ
 
 abbrev pub After-slice-known3 : (Inv : InvT-loop) → (μ : MeasureT-loop) → Type 0
-After-slice-known3 = λ Inv μ. Lts.After-slice-known3 claims Reads'6.Pre Reads'6.Post Inv μ
+After-slice-known3 = λ Inv μ. Lts.After-slice-known3 claims Reads'5.Pre Reads'5.Post Inv μ
 
 abbrev pub After-line-count : (Inv : InvT-loop) → (μ : MeasureT-loop) → Type 0
-After-line-count = λ Inv μ. Lts.After-line-count claims Reads'6.Pre Reads'6.Post Inv μ
+After-line-count = λ Inv μ. Lts.After-line-count claims Reads'5.Pre Reads'5.Post Inv μ
 
 abbrev pub After-classes : (Inv : InvT-loop) → (μ : MeasureT-loop) → Type 0
-After-classes = λ Inv μ. Lts.After-classes claims Reads'6.Pre Reads'6.Post Inv μ
+After-classes = λ Inv μ. Lts.After-classes claims Reads'5.Pre Reads'5.Post Inv μ
 
 abbrev pub After-fresh : (Inv : InvT-loop) → (μ : MeasureT-loop) → Type 0
-After-fresh = λ Inv μ. Lts.After-fresh claims Reads'6.Pre Reads'6.Post Inv μ
+After-fresh = λ Inv μ. Lts.After-fresh claims Reads'5.Pre Reads'5.Post Inv μ
 
 abbrev pub At-loop : (Inv : InvT-loop) → (μ : MeasureT-loop) → Type 0
-At-loop = λ Inv μ. Lts.At-loop claims Reads'6.Pre Reads'6.Post Inv μ
+At-loop = λ Inv μ. Lts.At-loop claims Reads'5.Pre Reads'5.Post Inv μ
 
 abbrev pub In-loop : (Inv : InvT-loop) → (μ : MeasureT-loop) → Type 0
-In-loop = λ Inv μ. Lts.In-loop claims Reads'6.Pre Reads'6.Post Inv μ
+In-loop = λ Inv μ. Lts.In-loop claims Reads'5.Pre Reads'5.Post Inv μ
 
 abbrev pub After-loop : (Inv : InvT-loop) → (μ : MeasureT-loop) → Type 0
-After-loop = λ Inv μ. Lts.After-loop claims Reads'6.Pre Reads'6.Post Inv μ
+After-loop = λ Inv μ. Lts.After-loop claims Reads'5.Pre Reads'5.Post Inv μ
 
 abbrev pub After-line-at : (Inv : InvT-loop) → (μ : MeasureT-loop) → Type 0
-After-line-at = λ Inv μ. Lts.After-line-at claims Reads'6.Pre Reads'6.Post Inv μ
+After-line-at = λ Inv μ. Lts.After-line-at claims Reads'5.Pre Reads'5.Post Inv μ
 
-abbrev pub After-feed-line-arg : (Inv : InvT-loop) → (μ : MeasureT-loop) → Type 0
-After-feed-line-arg = λ Inv μ. Lts.After-feed-line-arg claims Reads'6.Pre Reads'6.Post Inv μ
+abbrev pub After-parse-line-arg : (Inv : InvT-loop) → (μ : MeasureT-loop) → Type 0
+After-parse-line-arg = λ Inv μ. Lts.After-parse-line-arg claims Reads'5.Pre Reads'5.Post Inv μ
 
-abbrev pub After-feed-line-arg2 : (Inv : InvT-loop) → (μ : MeasureT-loop) → Type 0
-After-feed-line-arg2 = λ Inv μ. Lts.After-feed-line-arg2 claims Reads'6.Pre Reads'6.Post Inv μ
+abbrev pub After-parse-line-arg2 : (Inv : InvT-loop) → (μ : MeasureT-loop) → Type 0
+After-parse-line-arg2 = λ Inv μ. Lts.After-parse-line-arg2 claims Reads'5.Pre Reads'5.Post Inv μ
 
-abbrev pub After-feed-line-arg3 : (Inv : InvT-loop) → (μ : MeasureT-loop) → Type 0
-After-feed-line-arg3 = λ Inv μ. Lts.After-feed-line-arg3 claims Reads'6.Pre Reads'6.Post Inv μ
+abbrev pub After-parse-line-arg3 : (Inv : InvT-loop) → (μ : MeasureT-loop) → Type 0
+After-parse-line-arg3 = λ Inv μ. Lts.After-parse-line-arg3 claims Reads'5.Pre Reads'5.Post Inv μ
 
 abbrev pub After-flags : (Inv : InvT-loop) → (μ : MeasureT-loop) → Type 0
-After-flags = λ Inv μ. Lts.After-flags claims Reads'6.Pre Reads'6.Post Inv μ
+After-flags = λ Inv μ. Lts.After-flags claims Reads'5.Pre Reads'5.Post Inv μ
 
-abbrev pub After-feed-line : (Inv : InvT-loop) → (μ : MeasureT-loop) → Type 0
-After-feed-line = λ Inv μ. Lts.After-feed-line claims Reads'6.Pre Reads'6.Post Inv μ
+abbrev pub After-parse-line : (Inv : InvT-loop) → (μ : MeasureT-loop) → Type 0
+After-parse-line = λ Inv μ. Lts.After-parse-line claims Reads'5.Pre Reads'5.Post Inv μ
 
 abbrev pub After-queue : (Inv : InvT-loop) → (μ : MeasureT-loop) → Type 0
-After-queue = λ Inv μ. Lts.After-queue claims Reads'6.Pre Reads'6.Post Inv μ
+After-queue = λ Inv μ. Lts.After-queue claims Reads'5.Pre Reads'5.Post Inv μ
 
 abbrev pub After-slice-known4 : (Inv : InvT-loop) → (μ : MeasureT-loop) → Type 0
-After-slice-known4 = λ Inv μ. Lts.After-slice-known4 claims Reads'6.Pre Reads'6.Post Inv μ
+After-slice-known4 = λ Inv μ. Lts.After-slice-known4 claims Reads'5.Pre Reads'5.Post Inv μ
 
 abbrev pub After-openers : (Inv : InvT-loop) → (μ : MeasureT-loop) → Type 0
-After-openers = λ Inv μ. Lts.After-openers claims Reads'6.Pre Reads'6.Post Inv μ
+After-openers = λ Inv μ. Lts.After-openers claims Reads'5.Pre Reads'5.Post Inv μ
 
 abbrev pub After-slice-known5 : (Inv : InvT-loop) → (μ : MeasureT-loop) → Type 0
-After-slice-known5 = λ Inv μ. Lts.After-slice-known5 claims Reads'6.Pre Reads'6.Post Inv μ
+After-slice-known5 = λ Inv μ. Lts.After-slice-known5 claims Reads'5.Pre Reads'5.Post Inv μ
 
 abbrev pub After-labels : (Inv : InvT-loop) → (μ : MeasureT-loop) → Type 0
-After-labels = λ Inv μ. Lts.After-labels claims Reads'6.Pre Reads'6.Post Inv μ
+After-labels = λ Inv μ. Lts.After-labels claims Reads'5.Pre Reads'5.Post Inv μ
 
 abbrev pub After-slice-known6 : (Inv : InvT-loop) → (μ : MeasureT-loop) → Type 0
-After-slice-known6 = λ Inv μ. Lts.After-slice-known6 claims Reads'6.Pre Reads'6.Post Inv μ
+After-slice-known6 = λ Inv μ. Lts.After-slice-known6 claims Reads'5.Pre Reads'5.Post Inv μ
 
 abbrev pub After-finish-arg : (Inv : InvT-loop) → (μ : MeasureT-loop) → Type 0
-After-finish-arg = λ Inv μ. Lts.After-finish-arg claims Reads'6.Pre Reads'6.Post Inv μ
+After-finish-arg = λ Inv μ. Lts.After-finish-arg claims Reads'5.Pre Reads'5.Post Inv μ
 
 abbrev pub After-finish : (Inv : InvT-loop) → (μ : MeasureT-loop) → Type 0
-After-finish = λ Inv μ. Lts.After-finish claims Reads'6.Pre Reads'6.Post Inv μ
+After-finish = λ Inv μ. Lts.After-finish claims Reads'5.Pre Reads'5.Post Inv μ
 
 abbrev pub After-queue2 : (Inv : InvT-loop) → (μ : MeasureT-loop) → Type 0
-After-queue2 = λ Inv μ. Lts.After-queue2 claims Reads'6.Pre Reads'6.Post Inv μ
+After-queue2 = λ Inv μ. Lts.After-queue2 claims Reads'5.Pre Reads'5.Post Inv μ
 
 abbrev pub After-slice-known7 : (Inv : InvT-loop) → (μ : MeasureT-loop) → Type 0
-After-slice-known7 = λ Inv μ. Lts.After-slice-known7 claims Reads'6.Pre Reads'6.Post Inv μ
+After-slice-known7 = λ Inv μ. Lts.After-slice-known7 claims Reads'5.Pre Reads'5.Post Inv μ
 
 abbrev pub Need-line-count-requires : (Inv : InvT-loop) → (μ : MeasureT-loop) → Type 0
-Need-line-count-requires = λ Inv μ. Lts.Need-line-count-requires claims Reads'6.Pre Reads'6.Post Inv μ
+Need-line-count-requires = λ Inv μ. Lts.Need-line-count-requires claims Reads'5.Pre Reads'5.Post Inv μ
 
 abbrev pub Need-classes-requires : (Inv : InvT-loop) → (μ : MeasureT-loop) → Type 0
-Need-classes-requires = λ Inv μ. Lts.Need-classes-requires claims Reads'6.Pre Reads'6.Post Inv μ
+Need-classes-requires = λ Inv μ. Lts.Need-classes-requires claims Reads'5.Pre Reads'5.Post Inv μ
 
 abbrev pub Need-fresh-requires : (Inv : InvT-loop) → (μ : MeasureT-loop) → Type 0
-Need-fresh-requires = λ Inv μ. Lts.Need-fresh-requires claims Reads'6.Pre Reads'6.Post Inv μ
+Need-fresh-requires = λ Inv μ. Lts.Need-fresh-requires claims Reads'5.Pre Reads'5.Post Inv μ
 
 abbrev pub Need-loop-holds : (Inv : InvT-loop) → (μ : MeasureT-loop) → Type 0
-Need-loop-holds = λ Inv μ. Lts.Need-loop-holds claims Reads'6.Pre Reads'6.Post Inv μ
+Need-loop-holds = λ Inv μ. Lts.Need-loop-holds claims Reads'5.Pre Reads'5.Post Inv μ
 
 abbrev pub Need-line-at-requires : (Inv : InvT-loop) → (μ : MeasureT-loop) → Type 0
-Need-line-at-requires = λ Inv μ. Lts.Need-line-at-requires claims Reads'6.Pre Reads'6.Post Inv μ
+Need-line-at-requires = λ Inv μ. Lts.Need-line-at-requires claims Reads'5.Pre Reads'5.Post Inv μ
 
-abbrev pub Need-feed-line-requires : (Inv : InvT-loop) → (μ : MeasureT-loop) → Type 0
-Need-feed-line-requires = λ Inv μ. Lts.Need-feed-line-requires claims Reads'6.Pre Reads'6.Post Inv μ
+abbrev pub Need-parse-line-requires : (Inv : InvT-loop) → (μ : MeasureT-loop) → Type 0
+Need-parse-line-requires = λ Inv μ. Lts.Need-parse-line-requires claims Reads'5.Pre Reads'5.Post Inv μ
 
 abbrev pub Need-add-i : (Inv : InvT-loop) → (μ : MeasureT-loop) → Type 0
-Need-add-i = λ Inv μ. Lts.Need-add-i claims Reads'6.Pre Reads'6.Post Inv μ
+Need-add-i = λ Inv μ. Lts.Need-add-i claims Reads'5.Pre Reads'5.Post Inv μ
 
 abbrev pub Need-loop-less : (Inv : InvT-loop) → (μ : MeasureT-loop) → Type 0
-Need-loop-less = λ Inv μ. Lts.Need-loop-less claims Reads'6.Pre Reads'6.Post Inv μ
+Need-loop-less = λ Inv μ. Lts.Need-loop-less claims Reads'5.Pre Reads'5.Post Inv μ
 
 abbrev pub Need-loop-again : (Inv : InvT-loop) → (μ : MeasureT-loop) → Type 0
-Need-loop-again = λ Inv μ. Lts.Need-loop-again claims Reads'6.Pre Reads'6.Post Inv μ
+Need-loop-again = λ Inv μ. Lts.Need-loop-again claims Reads'5.Pre Reads'5.Post Inv μ
 
 abbrev pub Need-finish-requires : (Inv : InvT-loop) → (μ : MeasureT-loop) → Type 0
-Need-finish-requires = λ Inv μ. Lts.Need-finish-requires claims Reads'6.Pre Reads'6.Post Inv μ
+Need-finish-requires = λ Inv μ. Lts.Need-finish-requires claims Reads'5.Pre Reads'5.Post Inv μ
 
 abbrev pub Need-same-length : (Inv : InvT-loop) → (μ : MeasureT-loop) → Type 0
-Need-same-length = λ Inv μ. Lts.Need-same-length claims Reads'6.Pre Reads'6.Post Inv μ
+Need-same-length = λ Inv μ. Lts.Need-same-length claims Reads'5.Pre Reads'5.Post Inv μ
 
 abbrev pub Need-same-length-2 : (Inv : InvT-loop) → (μ : MeasureT-loop) → Type 0
-Need-same-length-2 = λ Inv μ. Lts.Need-same-length-2 claims Reads'6.Pre Reads'6.Post Inv μ
+Need-same-length-2 = λ Inv μ. Lts.Need-same-length-2 claims Reads'5.Pre Reads'5.Post Inv μ
 
 abbrev pub Need-same-length-3 : (Inv : InvT-loop) → (μ : MeasureT-loop) → Type 0
-Need-same-length-3 = λ Inv μ. Lts.Need-same-length-3 claims Reads'6.Pre Reads'6.Post Inv μ
+Need-same-length-3 = λ Inv μ. Lts.Need-same-length-3 claims Reads'5.Pre Reads'5.Post Inv μ
 
 abbrev pub Need-returns : (Inv : InvT-loop) → (μ : MeasureT-loop) → Type 0
-Need-returns = λ Inv μ. Lts.Need-returns claims Reads'6.Pre Reads'6.Post Inv μ
+Need-returns = λ Inv μ. Lts.Need-returns claims Reads'5.Pre Reads'5.Post Inv μ
 
 module _ {M : Type 1} where
   pub spec : (Inv : InvT-loop) → (μ : MeasureT-loop) → (answer : Need-line-count-requires Inv μ) → (answer : Need-classes-requires Inv μ) → (answer : Need-fresh-requires Inv μ) →
-      (answer : Need-loop-holds Inv μ) → (answer : Need-line-at-requires Inv μ) → (answer : Need-feed-line-requires Inv μ) → (answer : Need-add-i Inv μ) → (answer : Need-loop-less
+      (answer : Need-loop-holds Inv μ) → (answer : Need-line-at-requires Inv μ) → (answer : Need-parse-line-requires Inv μ) → (answer : Need-add-i Inv μ) → (answer : Need-loop-less
       Inv μ) → (answer : Need-loop-again Inv μ) → (answer : Need-finish-requires Inv μ) → (answer : Need-same-length Inv μ) → (answer : Need-same-length-2 Inv μ) → (answer :
-      Need-same-length-3 Inv μ) → (answer : Need-returns Inv μ) → Lts.Closed claims Reads'6.Pre Reads'6.Post M
-  spec = λ Inv μ answer answer' answer'' answer'3 answer'4 answer'5 answer'6 answer'7 answer'8 answer'9 answer'10 answer'11 answer'12 answer'13. Lts.spec claims Reads'6.Pre
-      Reads'6.Post Inv μ answer answer' answer'' answer'3 answer'4 answer'5 answer'6 answer'7 answer'8 answer'9 answer'10 answer'11 answer'12 answer'13
+      Need-same-length-3 Inv μ) → (answer : Need-returns Inv μ) → Lts.Closed claims Reads'5.Pre Reads'5.Post M
+  spec = λ Inv μ answer answer' answer'' answer'3 answer'4 answer'5 answer'6 answer'7 answer'8 answer'9 answer'10 answer'11 answer'12 answer'13. Lts.spec claims Reads'5.Pre
+      Reads'5.Post Inv μ answer answer' answer'' answer'3 answer'4 answer'5 answer'6 answer'7 answer'8 answer'9 answer'10 answer'11 answer'12 answer'13
 
-  pub close : Lts.Closed claims Reads'6.Pre Reads'6.Post M → statement M
+  pub close : Lts.Closed claims Reads'5.Pre Reads'5.Post M → statement M
   unfolding Running.tablesOf
-  close = λ closed 𝓤 H 𝓜 𝓖 𝓡. Written.close 5 Kinds.ps Kinds.r Reads'6.Ghost Reads'6.requires Reads'6.ensures Reads'6.pre-read Reads'6.Pinned Reads'6.Owned Reads'6.post-read
-      record { M = M; 𝓤 = 𝓤; H = H; 𝓜 = 𝓜; 𝓖 = 𝓖; 𝓡 = 𝓡 } env Key.name function (unfolds 𝓤 H 𝓜 𝓡 members outside Key.name function refl) (λ κs a g. tt) (λ κs. Reads'6.owns κs
-      record { M = M; 𝓤 = 𝓤; H = H; 𝓜 = 𝓜; 𝓖 = 𝓖; 𝓡 = 𝓡 }) (Reads'6.passes record { M = M; 𝓤 = 𝓤; H = H; 𝓜 = 𝓜; 𝓖 = 𝓖; 𝓡 = 𝓡 }) λ g. closed 𝓤 H (𝓖 .A) (Running.givenOf 𝓤 H 𝓜 𝓖)
-      (Run.Over 𝓤 H 𝓜 𝓖 𝓡 env) (Reads'5.known record { M = M; 𝓤 = 𝓤; H = H; 𝓜 = 𝓜; 𝓖 = 𝓖; 𝓡 = 𝓡 } env Symbol'5.name Symbol'5.routine refl (Met'5.met 𝓤 H 𝓜 𝓖 𝓡)) (Reads.known
-      record { M = M; 𝓤 = 𝓤; H = H; 𝓜 = 𝓜; 𝓖 = 𝓖; 𝓡 = 𝓡 } env Symbol.name Symbol.routine refl (Met.met 𝓤 H 𝓜 𝓖 𝓡)) (Reads'3.known
-      record { M = M; 𝓤 = 𝓤; H = H; 𝓜 = 𝓜; 𝓖 = 𝓖; 𝓡 = 𝓡 } env Symbol'3.name Symbol'3.routine refl (Met'3.met 𝓤 H 𝓜 𝓖 𝓡)) (Reads'4.known
-      record { M = M; 𝓤 = 𝓤; H = H; 𝓜 = 𝓜; 𝓖 = 𝓖; 𝓡 = 𝓡 } env Symbol'4.name Symbol'4.routine refl (Met'4.met 𝓤 H 𝓜 𝓖 𝓡)) (Reads'.known
-      record { M = M; 𝓤 = 𝓤; H = H; 𝓜 = 𝓜; 𝓖 = 𝓖; 𝓡 = 𝓡 } env Symbol'.name Symbol'.routine refl (Met'.met 𝓤 H 𝓜 𝓖 𝓡)) (Reads''.known
-      record { M = M; 𝓤 = 𝓤; H = H; 𝓜 = 𝓜; 𝓖 = 𝓖; 𝓡 = 𝓡 } env Symbol''.name Symbol''.routine refl (Met''.met 𝓤 H 𝓜 𝓖 𝓡))
+  close = λ closed 𝓤 H 𝓜 𝓖 𝓡. Written.close 5 Kinds.ps Kinds.r Reads'5.Ghost Reads'5.requires Reads'5.ensures Reads'5.pre-read Reads'5.Pinned Reads'5.Owned Reads'5.post-read
+      record { M = M; 𝓤 = 𝓤; H = H; 𝓜 = 𝓜; 𝓖 = 𝓖; 𝓡 = 𝓡 } env Key.name function (unfolds 𝓤 H 𝓜 𝓡 members outside Key.name function refl) (λ κs a g. tt) (λ κs. Reads'5.owns κs
+      record { M = M; 𝓤 = 𝓤; H = H; 𝓜 = 𝓜; 𝓖 = 𝓖; 𝓡 = 𝓡 }) (Reads'5.passes record { M = M; 𝓤 = 𝓤; H = H; 𝓜 = 𝓜; 𝓖 = 𝓖; 𝓡 = 𝓡 }) λ g. closed 𝓤 H (𝓖 .A) (Running.givenOf 𝓤 H 𝓜 𝓖)
+      (Run.Over 𝓤 H 𝓜 𝓖 𝓡 env) (Reads'4.known record { M = M; 𝓤 = 𝓤; H = H; 𝓜 = 𝓜; 𝓖 = 𝓖; 𝓡 = 𝓡 } env Symbol'4.name Symbol'4.routine refl (Met'4.met 𝓤 H 𝓜 𝓖 𝓡)) (Reads.known
+      record { M = M; 𝓤 = 𝓤; H = H; 𝓜 = 𝓜; 𝓖 = 𝓖; 𝓡 = 𝓡 } env Symbol.name Symbol.routine refl (Met.met 𝓤 H 𝓜 𝓖 𝓡)) (Reads''.known
+      record { M = M; 𝓤 = 𝓤; H = H; 𝓜 = 𝓜; 𝓖 = 𝓖; 𝓡 = 𝓡 } env Symbol''.name Symbol''.routine refl (Met''.met 𝓤 H 𝓜 𝓖 𝓡)) (Reads'3.known
+      record { M = M; 𝓤 = 𝓤; H = H; 𝓜 = 𝓜; 𝓖 = 𝓖; 𝓡 = 𝓡 } env Symbol'3.name Symbol'3.routine refl (Met'3.met 𝓤 H 𝓜 𝓖 𝓡)) (Reads'6.known
+      record { M = M; 𝓤 = 𝓤; H = H; 𝓜 = 𝓜; 𝓖 = 𝓖; 𝓡 = 𝓡 } env Symbol'5.name Symbol'5.routine refl (Met'5.met 𝓤 H 𝓜 𝓖 𝓡)) (Reads'.known
+      record { M = M; 𝓤 = 𝓤; H = H; 𝓜 = 𝓜; 𝓖 = 𝓖; 𝓡 = 𝓡 } env Symbol'.name Symbol'.routine refl (Met'.met 𝓤 H 𝓜 𝓖 𝓡))
