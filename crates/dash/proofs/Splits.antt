@@ -1,5 +1,5 @@
--- The fewest en dashes, the split of a run in each case, and that a split is of the whole run.
-use Prim.Native.Nat.{ℕ, suc, _+_, _*_, _-_, _/_, _%_, _≤_, _<_}
+-- The fewest en dashes, the split of a run in each case of the rule, the six cases by six, and that a split is of the whole run.
+use Prim.Native.Nat.{ℕ, zero, suc, _+_, _*_, _-_, _/_, _%_, _≤_, _<_}
 use mathlib.Core.Path.{_≡_, ap, _∙_}
 use mathlib.Core.Bool.{true, false, and-eq-true-iff}
 use native.Mathlib.Decide.{ℕ-discrete}
@@ -7,6 +7,7 @@ use native.Mathlib.Omega.{arith}
 use borrow.Author.Tests.{le-leb, lt-ltb, le-ltb, eq-eqb, ne-eqb}
 use lib.Dec.{leb, eqb}
 use Rattle.dash.specs.Dashes.{comesOut, firstFrom, fewest, dashes, dashesOf, dotsOf}
+use Rattle.dash.specs.BySix.{sixCases, bySix}
 
 module _ (n : ℕ) where
   comes : (k : ℕ) → 2 * k ≤ n → (n - 2 * k) % 3 ≡ 0 → comesOut n k ≡ true
@@ -42,12 +43,12 @@ module _ (n : ℕ) where
         ∙ first-here 2 (n - 2) (comes 2 (omega arith) (omega arith))
 
     -- the cases of a split
-    pub split-em : n % 3 ≡ 0 → dashes (n / 3) 0 ≡ dashesOf n
+    split-em : n % 3 ≡ 0 → dashes (n / 3) 0 ≡ dashesOf n
     unfolding dashesOf
     split-em e = rw (le-ltb _ _ h, eq-eqb _ _ e, dashesOf)
 
     module _ (e : n % 3 ≡ 0 → ⊥) where
-      pub split-en : n % 2 ≡ 0 → dashes 0 (n / 2) ≡ dashesOf n
+      split-en : n % 2 ≡ 0 → dashes 0 (n / 2) ≡ dashesOf n
       unfolding dashesOf
       split-en o = rw (le-ltb _ _ h, ne-eqb _ _ e, eq-eqb _ _ o, dashesOf)
 
@@ -55,11 +56,22 @@ module _ (n : ℕ) where
       unfolding dashesOf
       both o k f = rw (le-ltb _ _ h, ne-eqb _ _ e, ne-eqb _ _ o, f, dashesOf)
 
-      pub split-one : (n % 2 ≡ 0 → ⊥) → n % 3 ≡ 2 → dashes ((n - 2) / 3) 1 ≡ dashesOf n
+      split-one : (n % 2 ≡ 0 → ⊥) → n % 3 ≡ 2 → dashes ((n - 2) / 3) 1 ≡ dashesOf n
       split-one o m = both o 1 (one m)
 
-      pub split-two : (n % 2 ≡ 0 → ⊥) → (n % 3 ≡ 2 → ⊥) → dashes ((n - 4) / 3) 2 ≡ dashesOf n
+      split-two : (n % 2 ≡ 0 → ⊥) → (n % 3 ≡ 2 → ⊥) → dashes ((n - 4) / 3) 2 ≡ dashesOf n
       split-two o m = both o 2 (two (omega arith) o)
+
+    -- the six cases are the rule, at each length from 2 up
+    pub by-six : (r : ℕ) → n % 6 ≡ r → bySix n r ≡ dashesOf n
+    unfolding sixCases bySix
+    by-six zero e = split-em (omega arith)
+    by-six (suc zero) e = split-two (omega arith) (omega arith) (omega arith)
+    by-six (suc (suc zero)) e = split-en (omega arith) (omega arith)
+    by-six (suc (suc (suc zero))) e = split-em (omega arith)
+    by-six (suc (suc (suc (suc zero)))) e = split-en (omega arith) (omega arith)
+    by-six (suc (suc (suc (suc (suc zero))))) e = split-one (omega arith) (omega arith) (omega arith)
+    by-six (suc (suc (suc (suc (suc (suc r)))))) e = absurd (omega arith)
 
   pub split-none : n < 2 → dashes 0 0 ≡ dashesOf n
   unfolding dashesOf

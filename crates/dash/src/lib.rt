@@ -14,23 +14,20 @@ pub struct Dots {
     pub rest: usize,
 }
 
-// A run of hyphens. Fewer than two are no dash.
+// A run of hyphens, in the six cases of its length by six. Fewer than two are no dash.
 pub fn split_hyphens(len: usize) -> Dashes
     ensures { λ r. ⌜ r ≡ dashesOf len ⌝ }
 {
     if len < 2 {
         return split(0, 0);
     }
-    if len % 3 == 0 {
-        return split(len / 3, 0);
+    match len % 6 {
+        0 | 3 => split(len / 3, 0),
+        2 | 4 => split(0, len / 2),
+        5 => split((len - 2) / 3, 1),
+        // no other number is left by six
+        1 | _ => split((len - 4) / 3, 2),
     }
-    if len % 2 == 0 {
-        return split(0, len / 2);
-    }
-    if len % 3 == 2 {
-        return split((len - 2) / 3, 1);
-    }
-    split((len - 4) / 3, 2)
 }
 
 fn split(em: usize, en: usize) -> Dashes
