@@ -172,6 +172,7 @@ opens-closed-by opens_closed_by
 opens-or opens_or
 opens-verbatim opens_verbatim
 opens-with opens_with
+outcome-of outcome_of
 outcome-with outcome_with
 outside-raw outside_raw
 overOf over_of
@@ -201,6 +202,7 @@ right-double right_double
 right-single right_single
 role-of role_of
 room-code room_code
+rooms-of rooms_of
 ruledFrom ruled_from
 rulesOf rules_of
 sameAs same_as

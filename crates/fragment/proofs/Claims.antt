@@ -20,7 +20,7 @@ use Rattle.reading.specs.Questions.{Rooms, Outcome, total, label_room, numbers, 
 use Rattle.reading.specs.Walked.{Whole, events}
 use Rattle.reading.proofs.Choose.{choose, choose₂}
 use Rattle.reading.proofs.Answers.{asks, accepted, never-nine, short}
-use Rattle.outcome.specs.Outcomes.{rooms-of, outcome-of}
+use Rattle.outcome.specs.Outcomes.{rooms_of, outcome_of}
 use Rattle.listing.specs.Listing.{listed}
 use Rattle.listing.proofs.Listed.{listed-numbers, numbers-length}
 use Rattle.markup.specs.Markup.{fragment}
@@ -81,7 +81,7 @@ module _ (text : List ℕ) (ls : List Line) (reading : ℕ) (rooms : Rooms) wher
   few-codes = asks text ls reading rooms Few (λ code at l u. omega (arith, u)) (λ f. few-judged (read x ls).refused (read x ls).fits (read x ls) rooms)
 
   -- the events of an accepted sheet stand in their room
-  module _ (a : Answer) (e q p l : List ℕ) (is : outcome-of a e q p l ≡ o) where
+  module _ (a : Answer) (e q p l : List ℕ) (is : outcome_of a e q p l ≡ o) where
     code_is : a.code ≡ o.answer.code
     code_is = ap (λ (z : Outcome). z.answer.code) is
 
@@ -117,15 +117,15 @@ module _ (text : List ℕ) (ls : List Line) (reading : ℕ) (rooms : Rooms) wher
         }
 
     -- the rooms are those that were lent, so that they are zeroed alike
-    module _ (out : List ℕ) (f : Fragmented) (same : cleared (rooms-of e q p l) ≡ cleared rooms) where
-      comes-to : f ≡ behind text (listed a.events e) (rooms-of e q p l) (outcome-of a e q p l) out → f ≡ fragmented text ls reading rooms out
+    module _ (out : List ℕ) (f : Fragmented) (same : cleared (rooms_of e q p l) ≡ cleared rooms) where
+      comes-to : f ≡ behind text (listed a.events e) (rooms_of e q p l) (outcome_of a e q p l) out → f ≡ fragmented text ls reading rooms out
       unfolding behind
       comes-to h =
           h
           ∙ choose₂ (λ (u w : Fragmented). u ≡ w) (eqb a.code 0) _ _ _ _
           (λ c. let z = eqb-true a.code 0 c in
-          ap (λ (v : List Event). judged (first_barred v) (fragment text v) (rooms-of e q p l) (outcome-of a e q p l) out) (listed-es z)
-          ∙ judged-cleared (first_barred es) (fragment text es) (rooms-of e q p l) rooms (outcome-of a e q p l) out same)
+          ap (λ (v : List Event). judged (first_barred v) (fragment text v) (rooms_of e q p l) (outcome_of a e q p l) out) (listed-es z)
+          ∙ judged-cleared (first_barred es) (fragment text es) (rooms_of e q p l) rooms (outcome_of a e q p l) out same)
           (λ c. refl)
           ∙ ap (λ (z : Outcome). behind text es rooms z out) is
 
@@ -164,19 +164,19 @@ module _ (text : List ℕ) (ls : List Line) (reading : ℕ) (rooms : Rooms) wher
 
 -- rooms of the same sizes are zeroed alike
 cleared-alike : (e q p l e' q' p' l' : List ℕ) → length e' ≡ length e → length q' ≡ length q → length p' ≡ length p → length l' ≡ length l
-    → cleared (rooms-of e' q' p' l') ≡ cleared (rooms-of e q p l)
-cleared-alike e q p l e' q' p' l' a b c d = λ t. rooms-of (replicate (a t) 0) (replicate (b t) 0) (replicate (c t) 0) (replicate (d t) 0)
+    → cleared (rooms_of e' q' p' l') ≡ cleared (rooms_of e q p l)
+cleared-alike e q p l e' q' p' l' a b c d = λ t. rooms_of (replicate (a t) 0) (replicate (b t) 0) (replicate (c t) 0) (replicate (d t) 0)
 
 -- a call, of any rooms: what comes of the reader's answer is the definition's outcome, and all that is claimed of it holds
 module _ (text : List ℕ) (ls : List Line) (reading : ℕ) (e q p l : List ℕ) (a : Answer) (e' q' p' l' : List ℕ)
-    (is : outcome-of a e' q' p' l' ≡ outcome text ls reading (rooms-of e q p l))
+    (is : outcome_of a e' q' p' l' ≡ outcome text ls reading (rooms_of e q p l))
     (sizes : (length e' ≡ length e) × (length q' ≡ length q) × (length p' ≡ length p) × (length l' ≡ length l)) where
-  pub called : (out : List ℕ) (f : Fragmented) → f ≡ behind text (listed a.events e') (rooms-of e' q' p' l') (outcome-of a e' q' p' l') out
-      → (f ≡ fragmented text ls reading (rooms-of e q p l) out)
-      × ((f.answer.code ≡ 0 → Shows text ls reading (rooms-of e q p l) f)
+  pub called : (out : List ℕ) (f : Fragmented) → f ≡ behind text (listed a.events e') (rooms_of e' q' p' l') (outcome_of a e' q' p' l') out
+      → (f ≡ fragmented text ls reading (rooms_of e q p l) out)
+      × ((f.answer.code ≡ 0 → Shows text ls reading (rooms_of e q p l) f)
       × ((total ls + 1 ≤ length e / event_numbers → f.answer.code ≡ 9 → ⊥)
       × (enough ls ≤ length out → f.answer.code ≡ 11 → ⊥)))
   called out f h =
       let same = cleared-alike e q p l e' q' p' l' sizes.0 sizes.1 sizes.2 sizes.3 in
-      let so = comes-to text ls reading (rooms-of e q p l) a e' q' p' l' is out f same h in
-      (so, (shows text ls reading (rooms-of e q p l) out f so, (no_nine text ls reading (rooms-of e q p l) out f so, no-eleven text ls reading (rooms-of e q p l) out f so)))
+      let so = comes-to text ls reading (rooms_of e q p l) a e' q' p' l' is out f same h in
+      (so, (shows text ls reading (rooms_of e q p l) out f so, (no_nine text ls reading (rooms_of e q p l) out f so, no-eleven text ls reading (rooms_of e q p l) out f so)))

@@ -4,7 +4,7 @@ ghost use Rattle.reading.specs.Events.{event_numbers};
 ghost use Rattle.reading.specs.Questions.{total, outcome};
 ghost use Rattle.reading.specs.Walked.{Accepted};
 ghost use Rattle.lookup.specs.Lookup.{home_in, label_of};
-ghost use Rattle.outcome.specs.Outcomes.{rooms-of, outcome-of};
+ghost use Rattle.outcome.specs.Outcomes.{rooms_of, outcome_of};
 ghost use Rattle.mivurakol.specs.Values.{part_of, bytes_of};
 
 use reading::{Answer, IN_TEXT, Line, NO_HOME};
@@ -29,9 +29,9 @@ pub extern "C" fn mivurakol_read(
     openers: &mut [u32],
     labels: &mut [u8],
 ) -> Answer
-    ensures labels_after { outcome-of result events.new queue.new openers.new labels.new ≡ outcome text.now
-        lines.now reading (rooms-of events.old queue.old openers.old labels.old) }
-    ensures accepted { result.code ≡ 0 → Accepted text.now lines.now reading (rooms-of events.old queue.old openers.old labels.old) (outcome-of result events.new queue.new openers.new labels.new) }
+    ensures labels_after { outcome_of result events.new queue.new openers.new labels.new ≡ outcome text.now
+        lines.now reading (rooms_of events.old queue.old openers.old labels.old) }
+    ensures accepted { result.code ≡ 0 → Accepted text.now lines.now reading (rooms_of events.old queue.old openers.old labels.old) (outcome_of result events.new queue.new openers.new labels.new) }
     ensures fact { total lines.now + 1 ≤ length events.old / event_numbers → result.code ≡ 9 → ⊥ }
 {
     records::read(text, lines, reading, events, queue, openers, labels)

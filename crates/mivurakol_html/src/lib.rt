@@ -2,7 +2,7 @@
 ghost use Rattle.std.specs.Prelude.{◌≡◌, ◌+◌, ◌/◌, ◌≤◌, length};
 ghost use Rattle.reading.specs.Events.{event_numbers};
 ghost use Rattle.reading.specs.Questions.{total};
-ghost use Rattle.outcome.specs.Outcomes.{rooms-of};
+ghost use Rattle.outcome.specs.Outcomes.{rooms_of};
 ghost use Rattle.verdict.specs.Fragments.{fragmented_of, fragmented, Shows, enough};
 
 use reading::Line;
@@ -20,9 +20,9 @@ pub extern "C" fn mivurakol_fragment(
     labels: &mut [u8],
     out: &mut [u8],
 ) -> FragmentAnswer
-    ensures out_after { fragmented_of result (rooms-of events.new queue.new openers.new labels.new) out.new ≡ fragmented
-        text.now lines.now reading (rooms-of events.old queue.old openers.old labels.entry.now) out.old }
-    ensures shows { result.code ≡ 0 → Shows text.now lines.now reading (rooms-of events.old queue.old openers.entry.now labels.old) (fragmented_of result (rooms-of events.new queue.new openers.new labels.new)
+    ensures out_after { fragmented_of result (rooms_of events.new queue.new openers.new labels.new) out.new ≡ fragmented
+        text.now lines.now reading (rooms_of events.old queue.old openers.old labels.entry.now) out.old }
+    ensures shows { result.code ≡ 0 → Shows text.now lines.now reading (rooms_of events.old queue.old openers.entry.now labels.old) (fragmented_of result (rooms_of events.new queue.new openers.new labels.new)
         out.new) }
     ensures fact { total lines.now + 1 ≤ length events.old / event_numbers → result.code ≡ 9 → ⊥ }
     ensures fact_2 { enough lines.now ≤ length out.old → result.code ≡ 11 → ⊥ }

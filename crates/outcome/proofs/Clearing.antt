@@ -9,7 +9,7 @@ use lib.Seq.{length-take-le, take_all, take-suc-set}
 use Rattle.reading.specs.declared.Answer.{Answer}
 use Rattle.reading.specs.Events.{event_numbers}
 use Rattle.reading.specs.Questions.{refusal, acceptance, zeros, refuses, cleared}
-use Rattle.outcome.specs.Outcomes.{rooms-of, outcome-of, kept, accepts}
+use Rattle.outcome.specs.Outcomes.{rooms_of, outcome_of, kept, accepts}
 
 -- a room whose first i numbers are cleared
 pub record Clearing (room₀ room : List ℕ) (i : ℕ) : Type 0 where
@@ -50,10 +50,10 @@ kept-all n room part h e =
 module _ (e q o l : List ℕ) where
   -- a refusal under 7 to 9
   pub refused_all : (code place : ℕ) (r : Answer) (e' q' o' l' : List ℕ) → r ≡ refusal code place → e' ≡ zeros e → q' ≡ zeros q → o' ≡ zeros o → l' ≡ zeros l
-      → outcome-of r e' q' o' l' ≡ refuses code place (cleared (rooms-of e q o l))
+      → outcome_of r e' q' o' l' ≡ refuses code place (cleared (rooms_of e q o l))
   refused_all code place r e' q' o' l' a b c d f = rw (a, b, c, d, f)
 
   -- an acceptance
   pub accepted-all : (count bytes : ℕ) (e' q' o' l' : List ℕ) → e' ≡ kept (count * event_numbers) e → q' ≡ zeros q → o' ≡ zeros o → l' ≡ kept bytes l
-      → outcome-of (acceptance count bytes) e' q' o' l' ≡ accepts count bytes (rooms-of e q o l)
+      → outcome_of (acceptance count bytes) e' q' o' l' ≡ accepts count bytes (rooms_of e q o l)
   accepted-all count bytes e' q' o' l' b c d f = rw (b, c, d, f)

@@ -5,11 +5,11 @@ use Rattle.reading.specs.Events.{event_numbers}
 use Rattle.reading.specs.Questions.{Rooms, Outcome, acceptance, zeros}
 
 -- the four rooms, as they are lent
-abbrev pub rooms-of : List ℕ → List ℕ → List ℕ → List ℕ → Rooms
-rooms-of e q o l = record { events = e; queue = q; openers = o; labels = l }
+abbrev pub rooms_of : List ℕ → List ℕ → List ℕ → List ℕ → Rooms
+rooms_of e q o l = record { events = e; queue = q; openers = o; labels = l }
 
-abbrev pub outcome-of : Answer → List ℕ → List ℕ → List ℕ → List ℕ → Outcome
-outcome-of a e q o l = record { answer = a; rooms = rooms-of e q o l }
+abbrev pub outcome_of : Answer → List ℕ → List ℕ → List ℕ → List ℕ → Outcome
+outcome_of a e q o l = record { answer = a; rooms = rooms_of e q o l }
 
 -- the first n numbers of a room, and zero behind them
 abbrev pub kept : ℕ → List ℕ → List ℕ
@@ -18,5 +18,5 @@ kept n room = take n room ++ replicate (length room - n) 0
 -- so many events and label bytes stay, and all else is zero
 abbrev pub accepts : ℕ → ℕ → Rooms → Outcome
 accepts count bytes rooms =
-    outcome-of (acceptance count bytes) (kept (count * event_numbers) rooms.events) (zeros rooms.queue) (zeros rooms.openers)
+    outcome_of (acceptance count bytes) (kept (count * event_numbers) rooms.events) (zeros rooms.queue) (zeros rooms.openers)
     (kept bytes rooms.labels)

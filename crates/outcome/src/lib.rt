@@ -2,7 +2,7 @@
 ghost use Rattle.std.specs.Prelude.{◌≡◌, ◌*◌, ◌^◌, ◌≤◌, ◌<◌, length};
 ghost use Rattle.reading.specs.Events.{event_numbers};
 ghost use Rattle.reading.specs.Questions.{refusal as refusal-of, zeros, refuses, cleared};
-ghost use Rattle.outcome.specs.Outcomes.{rooms-of, outcome-of, kept, accepts};
+ghost use Rattle.outcome.specs.Outcomes.{rooms_of, outcome_of, kept, accepts};
 
 use reading::{Answer, EVENT_NUMBERS};
 
@@ -56,7 +56,7 @@ pub fn refuse(
     openers: &mut [u32],
     labels: &mut [u8],
 ) -> Answer
-    ensures { outcome-of result events.new queue.new openers.new labels.new ≡ refuses code place (cleared (rooms-of
+    ensures { outcome_of result events.new queue.new openers.new labels.new ≡ refuses code place (cleared (rooms_of
         events.old queue.old openers.old labels.old)) }
 {
     clear(events);
@@ -93,7 +93,7 @@ pub fn accept(
     requires count_bound { count < 2 ^ 32 }
     requires bytes_in_bounds { bytes ≤ length labels.old }
     requires bytes_bound { bytes < 2 ^ 32 }
-    ensures { outcome-of result events.new queue.new openers.new labels.new ≡ accepts count bytes (rooms-of events.old queue.old openers.old labels.old) }
+    ensures { outcome_of result events.new queue.new openers.new labels.new ≡ accepts count bytes (rooms_of events.old queue.old openers.old labels.old) }
 {
     let records = count * EVENT_NUMBERS;
     let handed = count as u32;

@@ -1,6 +1,6 @@
 // The program behind `./fragment`: a sheet of standard input is read, and its fragment is written to standard output.
 ghost use Rattle.std.specs.Prelude.{◌≡◌, ◌≤◌, length, take};
-ghost use Rattle.outcome.specs.Outcomes.{rooms-of};
+ghost use Rattle.outcome.specs.Outcomes.{rooms_of};
 ghost use Rattle.verdict.specs.Fragments.{fragmented_of, fragmented};
 
 use input::BYTES;
@@ -51,8 +51,8 @@ fn write_lines(
     out: &mut [u8],
 ) -> FragmentAnswer
     requires { n ≤ 1000 }
-    ensures { fragmented_of result (rooms-of events.new queue.new openers.new labels.new) out.new ≡ fragmented
-        text.now (take n lines) 0 (rooms-of events.old queue.old openers.old labels.old) out.entry.now }
+    ensures { fragmented_of result (rooms_of events.new queue.new openers.new labels.new) out.new ≡ fragmented
+        text.now (take n lines) 0 (rooms_of events.old queue.old openers.old labels.old) out.entry.now }
 {
     fragment::write(text, &lines[..n], 0, events, queue, openers, labels, out)
 }

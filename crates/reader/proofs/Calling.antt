@@ -24,7 +24,7 @@ use Rattle.questions.specs.declared.Asked.{Asked}
 use Rattle.questions.specs.declared.Asked.TheVariants as asked
 use Rattle.questions.specs.Asking.{asked_of, concluded}
 use Rattle.reader.specs.declared.Brace.{Brace}
-use Rattle.outcome.specs.Outcomes.{rooms-of, outcome-of}
+use Rattle.outcome.specs.Outcomes.{rooms_of, outcome_of}
 use Rattle.reader.specs.Judging.{brace_of, code_of}
 use Rattle.questions.proofs.Asking.{outcome-asked}
 use Rattle.reader.proofs.Ending.{judged-rooms}
@@ -95,18 +95,18 @@ module _ (text : List ℕ) (ls : List Line) (reading : ℕ) where
 
   module _ (e q o l : List ℕ) (a : Asked) (h : a ≡ asked_of text ls reading (length q) (length o)) where
     -- a refusal under 1 to 6
-    pub refused-early : (r : Answer) → a ≡ asked.Refused r → outcome-of r e q o l ≡ outcome text ls reading (rooms-of e q o l)
+    pub refused-early : (r : Answer) → a ≡ asked.Refused r → outcome_of r e q o l ≡ outcome text ls reading (rooms_of e q o l)
     unfolding concluded
     refused-early r k =
-        sym (outcome-asked text ls reading (rooms-of e q o l) ∙ ap (λ (z : Asked). concluded text ls reading (rooms-of e q o l) z) (sym h ∙ k))
+        sym (outcome-asked text ls reading (rooms_of e q o l) ∙ ap (λ (z : Asked). concluded text ls reading (rooms_of e q o l) z) (sym h ∙ k))
 
     -- and what comes of a sheet that is read
     pub judged-all : (p : Parser) (q' o' l' : List ℕ) → a ≡ asked.Fed → StandsFor p q' o' l' (read (sheet text ls reading (label_room l)) ls)
         → length q' ≡ length q → length o' ≡ length o → length l' ≡ length l → (x : Outcome)
-        → x ≡ judged p.refused p.fits (stands p q' o' l') (rooms-of e q' o' l') → x ≡ outcome text ls reading (rooms-of e q o l)
+        → x ≡ judged p.refused p.fits (stands p q' o' l') (rooms_of e q' o' l') → x ≡ outcome text ls reading (rooms_of e q o l)
     unfolding concluded
     judged-all p q' o' l' k s u v w x g =
         g
-        ∙ ap (λ (z : State). judged z.refused z.fits z (rooms-of e q' o' l')) s.same
+        ∙ ap (λ (z : State). judged z.refused z.fits z (rooms_of e q' o' l')) s.same
         ∙ judged-rooms _ _ _ e q o l q' o' l' u v w
-        ∙ sym (outcome-asked text ls reading (rooms-of e q o l) ∙ ap (λ (z : Asked). concluded text ls reading (rooms-of e q o l) z) (sym h ∙ k))
+        ∙ sym (outcome-asked text ls reading (rooms_of e q o l) ∙ ap (λ (z : Asked). concluded text ls reading (rooms_of e q o l) z) (sym h ∙ k))

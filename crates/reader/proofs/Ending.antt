@@ -29,7 +29,7 @@ use Rattle.drain.specs.Handing.{answered, handed}
 use Rattle.drain.proofs.Handing.{answered-count, answered-too-many, handed-all}
 use Rattle.listing.proofs.Listed.{numbers-length}
 use Rattle.questions.specs.Asking.{Passed}
-use Rattle.outcome.specs.Outcomes.{rooms-of, outcome-of, kept, accepts}
+use Rattle.outcome.specs.Outcomes.{rooms_of, outcome_of, kept, accepts}
 use Rattle.reader.specs.Judging.{drained_as, Counted, Parsed}
 
 -- what is counted of an answer that all were handed out
@@ -51,7 +51,7 @@ module _ (e q o l : List ℕ) where
   module _ (es : List Event) (e₁ : List ℕ) (given : e₁ ≡ handed es e) (ls : List ℕ) where
     -- the events fit
     handed-fit : (count bytes : ℕ) → ls ≡ take bytes l → bytes ≤ length l → All count ≡ answered (length es) (length e / event_numbers)
-        → (count * event_numbers ≤ length e₁) × (count ≡ length es) × (accepts count bytes (rooms-of e₁ q o l) ≡ handed_out es ls (rooms-of e q o l))
+        → (count * event_numbers ≤ length e₁) × (count ≡ length es) × (accepts count bytes (rooms_of e₁ q o l) ≡ handed_out es ls (rooms_of e q o l))
     unfolding handed_out
     handed-fit count bytes f b a =
         let k = answered-count (length es) (length e / event_numbers) count (sym a) in
@@ -71,16 +71,16 @@ module _ (e q o l : List ℕ) where
         ap (λ (z : List ℕ). z ++ replicate (length l - bytes) 0) (sym f) ∙ ap (λ (m : ℕ). ls ++ replicate (length l - m) 0) (sym b') in (
           omega (arith, c, u),
           k.0,
-          ap (λ (z : List ℕ). outcome-of (acceptance count bytes) z (zeros q) (zeros o) (kept bytes l)) front
-              ∙ ap (λ (z : List ℕ). outcome-of (acceptance count bytes) (filled (numbers es) e) (zeros q) (zeros o) z) back
-              ∙ ap (λ (m : ℕ). outcome-of (acceptance m bytes) (filled (numbers es) e) (zeros q) (zeros o) (filled ls l)) k.0
-              ∙ ap (λ (m : ℕ). outcome-of (acceptance (length es) m) (filled (numbers es) e) (zeros q) (zeros o) (filled ls l)) (sym b')
+          ap (λ (z : List ℕ). outcome_of (acceptance count bytes) z (zeros q) (zeros o) (kept bytes l)) front
+              ∙ ap (λ (z : List ℕ). outcome_of (acceptance count bytes) (filled (numbers es) e) (zeros q) (zeros o) z) back
+              ∙ ap (λ (m : ℕ). outcome_of (acceptance m bytes) (filled (numbers es) e) (zeros q) (zeros o) (filled ls l)) k.0
+              ∙ ap (λ (m : ℕ). outcome_of (acceptance (length es) m) (filled (numbers es) e) (zeros q) (zeros o) (filled ls l)) (sym b')
               ∙ rw (k.1, handed_out),
         )
 
     -- they do not
     handed-full : Full ≡ answered (length es) (length e / event_numbers) → length e₁ ≡ length e
-        → refuses 9 0 (cleared (rooms-of e₁ q o l)) ≡ handed_out es ls (rooms-of e q o l)
+        → refuses 9 0 (cleared (rooms_of e₁ q o l)) ≡ handed_out es ls (rooms_of e q o l)
     unfolding handed_out
     handed-full a u = rw (answered-too-many (length es) (length e / event_numbers) (sym a), u, handed_out)
 
@@ -92,21 +92,21 @@ module _ (e q o l : List ℕ) where
       counted-out Full a few small = tt
 
       pub drained-out : (d : Drained) → d ≡ answered (length es) (length e / event_numbers) → length e₁ ≡ length e
-          → drained_as d bytes (rooms-of e₁ q o l) ≡ handed_out es ls (rooms-of e q o l)
+          → drained_as d bytes (rooms_of e₁ q o l) ≡ handed_out es ls (rooms_of e q o l)
       unfolding drained_as
       drained-out (All count) a u = (handed-fit count bytes f b a).2
       drained-out Full a u = handed-full a u
 
 -- the last questions look at no number of the queue, opener and label rooms
 pub judged-rooms : (r : Refused) (f : Bool) (s : State) (e q o l q' o' l' : List ℕ) → length q' ≡ length q → length o' ≡ length o → length l' ≡ length l
-    → judged r f s (rooms-of e q' o' l') ≡ judged r f s (rooms-of e q o l)
+    → judged r f s (rooms_of e q' o' l') ≡ judged r f s (rooms_of e q o l)
 unfolding judged handed_out
 judged-rooms (refused.At p) f s e q o l q' o' l' a b c = rw (a, b, c)
 judged-rooms refused.No false s e q o l q' o' l' a b c = rw (a, b, c)
 judged-rooms refused.No true s e q o l q' o' l' a b c = go (leb (length (drain s.queue)) (length e / event_numbers)) refl
   where
     go : (t : Bool) → leb (length (drain s.queue)) (length e / event_numbers) ≡ t
-        → handed_out (drain s.queue) s.labels (rooms-of e q' o' l') ≡ handed_out (drain s.queue) s.labels (rooms-of e q o l)
+        → handed_out (drain s.queue) s.labels (rooms_of e q' o' l') ≡ handed_out (drain s.queue) s.labels (rooms_of e q o l)
     go true h = rw (h, handed_out) (rw (a, b, c))
     go false h = rw (h, handed_out) (rw (a, b, c))
 

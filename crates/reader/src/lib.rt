@@ -9,7 +9,7 @@ ghost use Rattle.rooms.specs.Records.{events as events-of};
 ghost use Rattle.rooms.specs.Standing.{stands};
 ghost use Rattle.inline.specs.Lines.{lines_of};
 ghost use Rattle.inline.specs.Asks.{StandsFor};
-ghost use Rattle.outcome.specs.Outcomes.{rooms-of, outcome-of};
+ghost use Rattle.outcome.specs.Outcomes.{rooms_of, outcome_of};
 ghost use Rattle.questions.specs.Asking.{Passed};
 ghost use Rattle.reader.specs.Judging.{drained_as, Counted, brace_of, code_of, Parsed};
 
@@ -71,7 +71,7 @@ fn conclude(
     labels: &mut [u8],
 ) -> Answer
     requires { Counted drained bytes events.old labels.old }
-    ensures { outcome-of result events.new queue.new openers.new labels.new ≡ drained_as drained bytes (rooms-of events.old queue.old openers.old labels.old) }
+    ensures { outcome_of result events.new queue.new openers.new labels.new ≡ drained_as drained bytes (rooms_of events.old queue.old openers.old labels.old) }
 {
     match drained {
         Drained::All(count) => outcome::accept(count, bytes, events, queue, openers, labels),
@@ -89,7 +89,7 @@ fn hand_out(
 ) -> Answer
     requires refused_value { p.refused ≡ Refused.No }
     requires parsed { Parsed p queue.old labels.old }
-    ensures { outcome-of result events.new queue.new openers.new labels.new ≡ handed_out (drain (events-of p.events queue.old)) (take p.labels labels.old) (rooms-of events.old queue.old openers.entry.now labels.old) }
+    ensures { outcome_of result events.new queue.new openers.new labels.new ≡ handed_out (drain (events-of p.events queue.old)) (take p.labels labels.old) (rooms_of events.old queue.old openers.entry.now labels.old) }
 {
     let n = p.events;
     let bytes = p.labels;
@@ -132,8 +132,8 @@ pub fn judge(
     labels: &mut [u8],
 ) -> Answer
     requires { Parsed p queue.old labels.old }
-    ensures { outcome-of result events.new queue.new openers.new labels.new ≡ judged p.refused p.fits
-        (stands p queue.old openers.old labels.old) (rooms-of events.old queue.old openers.entry.now labels.old) }
+    ensures { outcome_of result events.new queue.new openers.new labels.new ≡ judged p.refused p.fits
+        (stands p queue.old openers.old labels.old) (rooms_of events.old queue.old openers.entry.now labels.old) }
 {
     let refused = p.refused;
     let brace = brace_of(refused);
@@ -155,9 +155,9 @@ pub fn read(
     openers: &mut [u32],
     labels: &mut [u8],
 ) -> Answer
-    ensures labels_after { outcome-of result events.new queue.new openers.new labels.new ≡ outcome text.now
-        (lines_of starts.now ends.now) reading (rooms-of events.old queue.old openers.old labels.old) }
-    ensures accepted { result.code ≡ 0 → Accepted text.now (lines_of starts.now ends.now) reading (rooms-of events.entry.now queue.old openers.old labels.old) (outcome-of result events.new queue.new openers.exit.now labels.new) }
+    ensures labels_after { outcome_of result events.new queue.new openers.new labels.new ≡ outcome text.now
+        (lines_of starts.now ends.now) reading (rooms_of events.old queue.old openers.old labels.old) }
+    ensures accepted { result.code ≡ 0 → Accepted text.now (lines_of starts.now ends.now) reading (rooms_of events.entry.now queue.old openers.old labels.old) (outcome_of result events.new queue.new openers.exit.now labels.new) }
     ensures fact { total (lines_of starts.now ends.now) + 1 ≤ length events.old / event_numbers → result.code ≡ 9 → ⊥ }
 {
     let asked = questions::questions(text, starts, ends, reading, queue.len(), openers.len());

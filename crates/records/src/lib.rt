@@ -11,7 +11,7 @@ ghost use Rattle.inline.specs.Asks.{Sheeted, Behind, Within, StandsFor};
 ghost use Rattle.classes.specs.Classes.{Ruled};
 ghost use Rattle.rooms.specs.Standing.{stands};
 ghost use Rattle.questions.specs.Asking.{checked_lines, asked_of, Passed, Small};
-ghost use Rattle.outcome.specs.Outcomes.{rooms-of, outcome-of};
+ghost use Rattle.outcome.specs.Outcomes.{rooms_of, outcome_of};
 
 use attr::Validator;
 use questions::{Asked, Early, LineWalk, Lines, WalkedLine};
@@ -192,9 +192,9 @@ pub fn read(
     openers: &mut [u32],
     labels: &mut [u8],
 ) -> Answer
-    ensures labels_after { outcome-of result events.new queue.new openers.new labels.new ≡ outcome text.now
-        lines.now reading (rooms-of events.old queue.old openers.old labels.old) }
-    ensures accepted { result.code ≡ 0 → Accepted text.now lines.now reading (rooms-of events.old queue.old openers.old labels.old) (outcome-of result events.new queue.new openers.new labels.new) }
+    ensures labels_after { outcome_of result events.new queue.new openers.new labels.new ≡ outcome text.now
+        lines.now reading (rooms_of events.old queue.old openers.old labels.old) }
+    ensures accepted { result.code ≡ 0 → Accepted text.now lines.now reading (rooms_of events.old queue.old openers.old labels.old) (outcome_of result events.new queue.new openers.new labels.new) }
     ensures fact { total lines.now + 1 ≤ length events.old / event_numbers → result.code ≡ 9 → ⊥ }
 {
     let asked = questions(text, lines, reading, queue.len(), openers.len());

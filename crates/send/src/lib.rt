@@ -2,7 +2,7 @@
 ghost use Rattle.std.specs.Prelude.{◌≡◌, ◌/◌, ◌≤◌, length, take};
 ghost use Rattle.reading.specs.Events.{event_numbers};
 ghost use Rattle.reading.specs.Questions.{outcome};
-ghost use Rattle.outcome.specs.Outcomes.{rooms-of};
+ghost use Rattle.outcome.specs.Outcomes.{rooms_of};
 ghost use Rattle.packed.specs.Calls.{call, enough_bytes};
 ghost use Rattle.send.specs.Sent.{sent};
 
@@ -27,9 +27,9 @@ fn pack_lines(
 ) -> PackedAnswer
     requires n_bound { n ≤ 1000 }
     requires event_numbers_in_bounds { enough_bytes (length events.old / event_numbers) ≤ length out.old }
-    ensures out_after { call result out.new ≡ sent (outcome text.now (take n lines) 0 (rooms-of events.old queue.old
+    ensures out_after { call result out.new ≡ sent (outcome text.now (take n lines) 0 (rooms_of events.old queue.old
         openers.old labels.old)) out.old }
-    ensures code_value { result.code ≡ (outcome text.now (take n lines) 0 (rooms-of events.old queue.old openers.old labels.old)).answer.code }
+    ensures code_value { result.code ≡ (outcome text.now (take n lines) 0 (rooms_of events.old queue.old openers.old labels.old)).answer.code }
 {
     let answer = show::read_lines(text, lines, n, events, queue, openers, labels);
     if answer.code != 0 {

@@ -1,7 +1,7 @@
 // The program behind `./sheet`: a sheet of standard input is read, and its events and the answer are printed.
 ghost use Rattle.std.specs.Prelude.{◌≡◌, ◌≤◌, length, take};
 ghost use Rattle.reading.specs.Questions.{outcome};
-ghost use Rattle.outcome.specs.Outcomes.{rooms-of, outcome-of};
+ghost use Rattle.outcome.specs.Outcomes.{rooms_of, outcome_of};
 
 use input::BYTES;
 use reading::{Answer, EVENT_NUMBERS, Line, OPENER_NUMBERS, QUEUE_NUMBERS};
@@ -31,8 +31,8 @@ pub fn read_lines(
     labels: &mut [u8],
 ) -> Answer
     requires { n ≤ 1000 }
-    ensures { outcome-of result events.new queue.new openers.new labels.new ≡ outcome text.now
-        (take n lines) 0 (rooms-of events.old queue.old openers.old labels.old) }
+    ensures { outcome_of result events.new queue.new openers.new labels.new ≡ outcome text.now
+        (take n lines) 0 (rooms_of events.old queue.old openers.old labels.old) }
 {
     records::read(text, &lines[..n], 0, events, queue, openers, labels)
 }

@@ -2,7 +2,7 @@
 ghost use Rattle.std.specs.Prelude.{◌≡◌, ◌*◌, ◌≤◌, length};
 ghost use Rattle.reading.specs.Events.{event_numbers};
 ghost use Rattle.reading.specs.Questions.{cleared};
-ghost use Rattle.outcome.specs.Outcomes.{rooms-of, outcome-of};
+ghost use Rattle.outcome.specs.Outcomes.{rooms_of, outcome_of};
 ghost use Rattle.output.specs.Written.{written, Within};
 ghost use Rattle.listing.specs.Listing.{listed};
 ghost use Rattle.markup.specs.Markup.{fragment};
@@ -117,8 +117,8 @@ fn refuse(
     openers: &mut [u32],
     labels: &mut [u8],
 ) -> FragmentAnswer
-    ensures { judging result (rooms-of events.new queue.new openers.new labels.new) ≡ judging (refusal-of code place)
-        (cleared (rooms-of events.old queue.old openers.old labels.old)) }
+    ensures { judging result (rooms_of events.new queue.new openers.new labels.new) ≡ judging (refusal-of code place)
+        (cleared (rooms_of events.old queue.old openers.old labels.old)) }
 {
     outcome::refuse(code, place, events, queue, openers, labels);
     refusal(code, place)
@@ -134,7 +134,7 @@ fn judge(
     labels: &mut [u8],
 ) -> FragmentAnswer
     requires { Fits shown }
-    ensures { judging result (rooms-of events.new queue.new openers.new labels.new) ≡ judged_as shown a (rooms-of events.old queue.old openers.old labels.old) }
+    ensures { judging result (rooms_of events.new queue.new openers.new labels.new) ≡ judged_as shown a (rooms_of events.old queue.old openers.old labels.old) }
 {
     match shown {
         Shown::All(n) => FragmentAnswer {
@@ -160,8 +160,8 @@ pub fn conclude(
     out: &mut [u8],
 ) -> FragmentAnswer
     requires { Listed a text.now events.old }
-    ensures { fragmented_of result (rooms-of events.new queue.new openers.new labels.new) out.new ≡ behind
-        text.now (listed a.events events.old) (rooms-of events.old queue.old openers.old labels.old) (outcome-of a events.old queue.old openers.old labels.old) out.old }
+    ensures { fragmented_of result (rooms_of events.new queue.new openers.new labels.new) out.new ≡ behind
+        text.now (listed a.events events.old) (rooms_of events.old queue.old openers.old labels.old) (outcome_of a events.old queue.old openers.old labels.old) out.old }
 {
     if a.code != 0 {
         outcome::clear_bytes(out);

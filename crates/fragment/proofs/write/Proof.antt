@@ -1,6 +1,6 @@
 -- `fragment::write` meets its contract: the reader's outcome, what comes of it, and what is claimed. The borrow checker's part comes from a twin (`Twin`).
 use borrow.Author.Rules.{rules}
-use Rattle.outcome.specs.Outcomes.{rooms-of}
+use Rattle.outcome.specs.Outcomes.{rooms_of}
 use Rattle.fragment.proofs.Claims.{listed-asked, called}
 use Rattle.fragment.proofs.write.Code.{routine}
 use Rattle.fragment.proofs.write.Statement.{statement}
@@ -13,7 +13,7 @@ conclude-requires : tie.Need-conclude-requires
 conclude-requires c κs =
     let args = c.before.before.before.before.before.before.before.before.before.before.before.before.before.before.before.before.before.before.before.before.before.before.before.before.args in
     let records-read = c.before.before.before.before.before.before.before.before.before.before.before.before.before.records-read in
-    listed-asked args.text.now args.lines.now args.reading (rooms-of args.events.now args.queue.now args.openers.now args.labels.now) records-read.result (records-read.new.1.1.1.0) (records-read.new.1.1.1.1.0) (records-read.new.1.1.1.1.1.0) (records-read.new.1.1.1.1.1.1.0) records-read.ensures.0
+    listed-asked args.text.now args.lines.now args.reading (rooms_of args.events.now args.queue.now args.openers.now args.labels.now) records-read.result (records-read.new.1.1.1.0) (records-read.new.1.1.1.1.0) (records-read.new.1.1.1.1.1.0) (records-read.new.1.1.1.1.1.1.0) records-read.ensures.0
 
 same_length : tie.Need-same-length
 same_length c = search rules

@@ -1,7 +1,7 @@
 -- `reader::conclude` meets its contract, by the laws of `Ending`.
 use mathlib.Core.Path.{◌∙◌}
 use borrow.Author.Rules.{rules}
-use Rattle.outcome.specs.Outcomes.{rooms-of}
+use Rattle.outcome.specs.Outcomes.{rooms_of}
 use Rattle.reader.proofs.Ending.{counted-all, drained-all, drained-full}
 use Rattle.reader.proofs.conclude.Statement.{statement}
 use Rattle.reader.proofs.conclude.Tie as tie
@@ -39,7 +39,7 @@ returns c =
     let args = c.before.before.before.before.before.before.before.before.before.before.before.before.before.before.before.before.before.before.before.before.args in
     let drained = c.before.before.before.before.before.before.before.before.before.before.before.before.before.before.drained in
     let accept = c.before.before.before.before.before.before.before.before.accept in
-    accept.ensures ∙ drained-all args.drained drained.given.0.0 args.bytes (rooms-of args.events.now args.queue.now args.openers.now args.labels.now) drained.given.1
+    accept.ensures ∙ drained-all args.drained drained.given.0.0 args.bytes (rooms_of args.events.now args.queue.now args.openers.now args.labels.now) drained.given.1
 
 same-length-5 : tie.Need-same-length-5
 same-length-5 c = search rules
@@ -58,7 +58,7 @@ returns-2 c =
     let args = c.before.before.before.before.before.before.before.before.before.before.before.before.before.before.before.before.before.before.before.args in
     let enum_told = c.before.before.before.before.before.before.before.before.before.before.before.before.before.enum_told in
     let refuse = c.before.before.before.before.before.before.before.before.refuse in
-    refuse.ensures ∙ drained-full args.drained args.bytes (rooms-of args.events.now args.queue.now args.openers.now args.labels.now) enum_told.given.1
+    refuse.ensures ∙ drained-full args.drained args.bytes (rooms_of args.events.now args.queue.now args.openers.now args.labels.now) enum_told.given.1
 
 pub conclude-spec : {M : Type 1} → statement M
 conclude-spec =

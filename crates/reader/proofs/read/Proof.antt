@@ -2,7 +2,7 @@
 use mathlib.Core.Path.{sym, ◌∙◌}
 use borrow.Author.Rules.{rules}
 use Rattle.inline.specs.Lines.{lines_of}
-use Rattle.outcome.specs.Outcomes.{rooms-of}
+use Rattle.outcome.specs.Outcomes.{rooms_of}
 use Rattle.questions.proofs.Asking.{asked-passed}
 use Rattle.reader.proofs.Ending.{parsed}
 use Rattle.reader.proofs.Calling.{owed, refused-early, judged-all}
@@ -38,7 +38,7 @@ returns c =
     let args = c.before.before.before.before.before.before.before.before.before.before.before.args in
     let questions = c.before.before.before.questions in
     let asked = c.before.asked in
-    owed args.text.now (lines_of args.starts.now args.ends.now) args.reading (rooms-of args.events.now args.queue.now args.openers.now args.labels.now) _ (refused-early args.text.now (lines_of args.starts.now args.ends.now) args.reading args.events.now args.queue.now args.openers.now args.labels.now questions.result questions.ensures asked.given.0.0 asked.given.1)
+    owed args.text.now (lines_of args.starts.now args.ends.now) args.reading (rooms_of args.events.now args.queue.now args.openers.now args.labels.now) _ (refused-early args.text.now (lines_of args.starts.now args.ends.now) args.reading args.events.now args.queue.now args.openers.now args.labels.now questions.result questions.ensures asked.given.0.0 asked.given.1)
 
 same_length : tie.Need-same-length
 same_length c = search rules
@@ -59,7 +59,7 @@ returns-2 c =
     let parse-lines = c.before.before.before.before.before.before.before.before.before.before.before.before.before.before.before.before.before.before.before.parse-lines in
     let enum_told = c.before.before.before.before.before.before.before.before.before.before.before.before.before.before.before.before.before.before.before.before.before.before.before.enum_told in
     let judge = c.before.before.before.before.before.before.before.before.judge in
-    owed args.text.now (lines_of args.starts.now args.ends.now) args.reading (rooms-of args.events.now args.queue.now args.openers.now args.labels.now) _ (judged-all args.text.now (lines_of args.starts.now args.ends.now) args.reading args.events.now args.queue.now args.openers.now args.labels.now questions.result questions.ensures parse-lines.result parse-lines.new.1.1.1.1.0 parse-lines.new.1.1.1.1.1.0 parse-lines.new.1.1.1.1.1.1.0 enum_told.given.1 parse-lines.ensures.0 parse-lines.auto.1.1.1.1.0 parse-lines.auto.1.1.1.1.1.0 parse-lines.auto.1.1.1.1.1.1.0 _ judge.ensures)
+    owed args.text.now (lines_of args.starts.now args.ends.now) args.reading (rooms_of args.events.now args.queue.now args.openers.now args.labels.now) _ (judged-all args.text.now (lines_of args.starts.now args.ends.now) args.reading args.events.now args.queue.now args.openers.now args.labels.now questions.result questions.ensures parse-lines.result parse-lines.new.1.1.1.1.0 parse-lines.new.1.1.1.1.1.0 parse-lines.new.1.1.1.1.1.1.0 enum_told.given.1 parse-lines.ensures.0 parse-lines.auto.1.1.1.1.0 parse-lines.auto.1.1.1.1.1.0 parse-lines.auto.1.1.1.1.1.1.0 _ judge.ensures)
 
 pub read_spec : {M : Type 1} → statement M
 read_spec =

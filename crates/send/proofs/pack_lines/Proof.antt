@@ -3,7 +3,7 @@ use mathlib.Core.Path.{sym}
 use borrow.Author.Rules.{rules}
 use lib.ListN.{take}
 use lib.Seq.{length-take-le}
-use Rattle.outcome.specs.Outcomes.{rooms-of, outcome-of}
+use Rattle.outcome.specs.Outcomes.{rooms_of, outcome_of}
 use Rattle.send.proofs.Sending.{refused-sent, handed_out, accepted-sent}
 use Rattle.send.proofs.pack_lines.Statement.{statement}
 use Rattle.send.proofs.pack_lines.Tie as tie
@@ -31,7 +31,7 @@ returns c =
     let args = c.before.before.before.before.before.before.before.before.before.before.before.before.before.before.before.before.before.before.before.before.before.before.args in
     let read-lines = c.before.before.before.before.before.before.before.before.before.before.before.read-lines in
     let if1 = c.before.if1 in
-    refused-sent args.text.now (take args.n args.lines) (rooms-of args.events.now args.queue.now args.openers.now args.labels.now) (outcome-of read-lines.result read-lines.new.1.1.1.0 read-lines.new.1.1.1.1.0 read-lines.new.1.1.1.1.1.0 read-lines.new.1.1.1.1.1.1.0) read-lines.ensures args.out.now if1.true
+    refused-sent args.text.now (take args.n args.lines) (rooms_of args.events.now args.queue.now args.openers.now args.labels.now) (outcome_of read-lines.result read-lines.new.1.1.1.0 read-lines.new.1.1.1.1.0 read-lines.new.1.1.1.1.1.0 read-lines.new.1.1.1.1.1.1.0) read-lines.ensures args.out.now if1.true
 
 cast-numbers : tie.Need-overflow-cast-numbers
 cast-numbers c = search rules
@@ -44,7 +44,7 @@ slice-reshare-prefix-pack c =
     let args = c.before.before.before.before.before.before.before.before.before.before.before.before.before.before.before.before.before.before.before.before.before.before.args in
     let read-lines = c.before.before.before.before.before.before.before.before.before.before.before.read-lines in
     let if1 = c.before.if1 in
-    handed_out args.text.now (take args.n args.lines) (rooms-of args.events.now args.queue.now args.openers.now args.labels.now) (outcome-of read-lines.result read-lines.new.1.1.1.0 read-lines.new.1.1.1.1.0 read-lines.new.1.1.1.1.1.0 read-lines.new.1.1.1.1.1.1.0) read-lines.ensures if1.false
+    handed_out args.text.now (take args.n args.lines) (rooms_of args.events.now args.queue.now args.openers.now args.labels.now) (outcome_of read-lines.result read-lines.new.1.1.1.0 read-lines.new.1.1.1.1.0 read-lines.new.1.1.1.1.1.0 read-lines.new.1.1.1.1.1.1.0) read-lines.ensures if1.false
 
 slice-aggregate-pack : tie.Need-slice-aggregate-pack
 slice-aggregate-pack c =
@@ -74,7 +74,7 @@ returns-2 c =
     let read-lines = c.before.before.before.before.before.before.before.before.before.before.before.before.before.before.before.before.read-lines in
     let if1 = c.before.before.before.before.before.before.if1 in
     let pack = c.before.before.pack in
-    accepted-sent args.text.now (take args.n args.lines) (rooms-of args.events.now args.queue.now args.openers.now args.labels.now) (outcome-of read-lines.result read-lines.new.1.1.1.0 read-lines.new.1.1.1.1.0 read-lines.new.1.1.1.1.1.0 read-lines.new.1.1.1.1.1.1.0) read-lines.ensures if1.false args.out.now pack.result pack.new.1.0 c.before.before.before.before.before.before.before.before.before.before.before.before.before.before.before.before.before.before.before.before.before.before.before.before.before.before.before.requires.1 read-lines.auto.1.1.1.0 pack.ensures.0
+    accepted-sent args.text.now (take args.n args.lines) (rooms_of args.events.now args.queue.now args.openers.now args.labels.now) (outcome_of read-lines.result read-lines.new.1.1.1.0 read-lines.new.1.1.1.1.0 read-lines.new.1.1.1.1.1.0 read-lines.new.1.1.1.1.1.1.0) read-lines.ensures if1.false args.out.now pack.result pack.new.1.0 c.before.before.before.before.before.before.before.before.before.before.before.before.before.before.before.before.before.before.before.before.before.before.before.before.before.before.before.requires.1 read-lines.auto.1.1.1.0 pack.ensures.0
 
 pub pack-lines-spec : {M : Type 1} → statement M
 pack-lines-spec =

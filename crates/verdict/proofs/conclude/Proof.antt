@@ -1,6 +1,6 @@
 -- `verdict::conclude` meets its contract: the reader's refusals come first.
 use borrow.Author.Rules.{rules}
-use Rattle.outcome.specs.Outcomes.{rooms-of}
+use Rattle.outcome.specs.Outcomes.{rooms_of}
 use Rattle.listing.specs.Listing.{listed}
 use Rattle.markup.specs.Markup.{fragment}
 use Rattle.verdict.specs.Fragments.{first_barred}
@@ -23,7 +23,7 @@ returns c =
     let refusal = c.refusal in
     let clear-bytes = c.before.before.before.clear-bytes in
     let if1 = c.before.before.before.before.before.if1 in
-    concluded-early args.text.now (listed args.a.events args.events.now) (rooms-of args.events.now args.queue.now args.openers.now args.labels.now) args.a args.out.now refusal.result (clear-bytes.new.0) if1.true refusal.ensures clear-bytes.ensures
+    concluded-early args.text.now (listed args.a.events args.events.now) (rooms_of args.events.now args.queue.now args.openers.now args.labels.now) args.a args.out.now refusal.result (clear-bytes.new.0) if1.true refusal.ensures clear-bytes.ensures
 
 cast-show : tie.Need-overflow-cast-show
 cast-show c = search rules
@@ -63,7 +63,7 @@ returns-2 c =
     let show = c.before.before.before.before.before.before.before.before.before.before.before.before.before.before.before.show in
     let judge = c.before.before.before.before.before.before.before.before.judge in
     let if1 = c.before.before.before.before.before.before.before.before.before.before.before.before.before.before.before.before.before.before.before.if1 in
-    concluded-late args.text.now (listed args.a.events args.events.now) (rooms-of args.events.now args.queue.now args.openers.now args.labels.now) args.a args.out.now show.result (show.new.1.1.1.0) judge.result _ if1.false show.ensures judge.ensures
+    concluded-late args.text.now (listed args.a.events args.events.now) (rooms_of args.events.now args.queue.now args.openers.now args.labels.now) args.a args.out.now show.result (show.new.1.1.1.0) judge.result _ if1.false show.ensures judge.ensures
 
 pub conclude-spec : {M : Type 1} → statement M
 conclude-spec =

@@ -1,6 +1,6 @@
 -- `verdict::judge` meets its contract, by what was written.
 use borrow.Author.Rules.{rules}
-use Rattle.outcome.specs.Outcomes.{rooms-of}
+use Rattle.outcome.specs.Outcomes.{rooms_of}
 use Rattle.verdict.proofs.Concluding.{fits_all, judge-all, judge-linked, judge-short}
 use Rattle.verdict.proofs.judge.Statement.{statement}
 use Rattle.verdict.proofs.judge.Tie as tie
@@ -31,7 +31,7 @@ returns : tie.Need-returns
 returns c =
     let args = c.before.before.before.before.before.before.before.args in
     let shown = c.before.shown in
-    judge-all args.shown args.a (rooms-of args.events.now args.queue.now args.openers.now args.labels.now) shown.given.0.0 shown.given.1
+    judge-all args.shown args.a (rooms_of args.events.now args.queue.now args.openers.now args.labels.now) shown.given.0.0 shown.given.1
 
 same_length : tie.Need-same-length
 same_length c = search rules
@@ -50,7 +50,7 @@ returns-2 c =
     let args = c.before.before.before.before.before.before.before.before.before.before.before.before.before.before.before.before.before.before.before.before.args in
     let shown2 = c.before.before.before.before.before.before.before.before.before.before.before.before.before.before.shown2 in
     let refuse = c.before.before.before.before.before.before.before.before.refuse in
-    judge-linked args.shown args.a (rooms-of args.events.now args.queue.now args.openers.now args.labels.now) shown2.given.0.0 _ shown2.given.1 refuse.ensures
+    judge-linked args.shown args.a (rooms_of args.events.now args.queue.now args.openers.now args.labels.now) shown2.given.0.0 _ shown2.given.1 refuse.ensures
 
 same-length-5 : tie.Need-same-length-5
 same-length-5 c = search rules
@@ -69,7 +69,7 @@ returns-3 c =
     let args = c.before.before.before.before.before.before.before.before.before.before.before.before.before.before.before.before.before.before.before.args in
     let enum_told = c.before.before.before.before.before.before.before.before.before.before.before.before.before.enum_told in
     let refuse2 = c.before.before.before.before.before.before.before.before.refuse2 in
-    judge-short args.shown args.a (rooms-of args.events.now args.queue.now args.openers.now args.labels.now) _ enum_told.given.1 refuse2.ensures
+    judge-short args.shown args.a (rooms_of args.events.now args.queue.now args.openers.now args.labels.now) _ enum_told.given.1 refuse2.ensures
 
 pub judge-spec : {M : Type 1} → statement M
 judge-spec =
