@@ -1,3 +1,4 @@
+#![tactic(auto)]
 // Events that are put behind the queue: one for a token, those of an accepted scan, of hyphens and of periods. What the rules ask of the
 // newest event is noted as it is put.
 ghost use Rattle.std.specs.Prelude.{◌≡◌, List, [], ◌∷◌, ℕ, ◌+◌, ◌-◌, ◌*◌, ◌^◌, ◌≤◌, ◌<◌, length};

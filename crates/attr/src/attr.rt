@@ -4,7 +4,7 @@ ghost use Rattle.classes.specs.Classes.{Ruled};
 ghost use Rattle.attr.specs.Attributes.{name, opening, parts, comment, first, rest, key, value, quoted, escaped, continued};
 ghost use Rattle.attr.specs.Attributes.{step, fed, is_done, is_decided};
 
-#[derive(Drop)]
+#[derive(Clone, Copy)]
 pub struct Validator {
     pub state: State,
 }
@@ -59,7 +59,7 @@ impl Validator {
     }
 }
 
-#[derive(Drop)]
+#[derive(Clone, Copy)]
 pub enum State {
     Start,
     Whitespace,

@@ -1,3 +1,4 @@
+#![tactic(auto)]
 // Attribute blocks, beside `attr.rs` of the source: whether one stands at a brace. Nothing is read of it.
 mod attr;
 

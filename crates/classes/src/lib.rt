@@ -1,3 +1,4 @@
+#![tactic(auto)]
 // Byte classes, and runs of bytes of one set. Special, blank, punctuation and alphanumeric are read from one table. An array constant is laid out
 // where it is used, so whoever reads lays it out once (`classes`) and lends it down.
 mod table;
@@ -17,7 +18,7 @@ const PUNCTUATION: u8 = 4;
 const ALPHANUMERIC: u8 = 8;
 
 // A set of bytes that a run is made of.
-#[derive(Drop)]
+#[derive(Clone, Copy)]
 pub enum Set {
     // Text: not special.
     Plain,

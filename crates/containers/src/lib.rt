@@ -1,3 +1,4 @@
+#![tactic(auto)]
 // Containers, quotes and spans: `parse_container` of the source. A token as a closer, then as an opener, then alone.
 ghost use Rattle.std.specs.Prelude.{◌≡◌, List, ℕ, ◌+◌, ◌-◌, ◌*◌, ◌^◌, ◌≤◌, ◌<◌, length};
 ghost use Rattle.classes.specs.Classes.{Ruled};

@@ -1,16 +1,17 @@
+#![tactic(auto)]
 // The split of a run of hyphens into dashes, and of a run of periods into ellipses.
 ghost use Rattle.std.specs.Prelude.{◌≡◌};
 ghost use Rattle.dash.specs.Dashes.{dashes, dashes_of, dots_of};
 
 // How many em dashes, and then how many en dashes.
-#[derive(Drop)]
+#[derive(Clone, Copy)]
 pub struct Dashes {
     pub em: usize,
     pub en: usize,
 }
 
 // How many ellipses, and how many periods are left.
-#[derive(Drop)]
+#[derive(Clone, Copy)]
 pub struct Dots {
     pub ellipses: usize,
     pub rest: usize,

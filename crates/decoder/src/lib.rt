@@ -1,3 +1,4 @@
+#![tactic(auto)]
 // Reading a packed list: a number and what is to hold of it, an event, and all events.
 ghost use Rattle.std.specs.Prelude.{◌≡◌, true, ◌+◌, ◌*◌, ◌≤◌, length};
 ghost use Rattle.reading.specs.Events.{event_numbers};
@@ -10,28 +11,28 @@ use packing::{Fault, LARGEST};
 use reading::{Event, Home, Link, NO_HOME, Place};
 
 // A number, and the place behind it; or a fault, and its place.
-#[derive(Drop)]
+#[derive(Clone, Copy)]
 pub enum Read {
     Number(u32, usize),
     Fault(Fault, usize),
 }
 
 // The same, of home and link number.
-#[derive(Drop)]
+#[derive(Clone, Copy)]
 enum ReadHome {
     Home(Home, usize),
     Fault(Fault, usize),
 }
 
 // And of an event.
-#[derive(Drop)]
+#[derive(Clone, Copy)]
 enum ReadEvent {
     Event(Event, usize),
     Fault(Fault, usize),
 }
 
 // The place behind all events, or a fault and its place.
-#[derive(Drop)]
+#[derive(Clone, Copy)]
 pub enum Ended {
     At(usize),
     Fault(Fault, usize),

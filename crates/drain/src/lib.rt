@@ -1,3 +1,4 @@
+#![tactic(auto)]
 // Handing out the queue's events: touching Str events become one, empty ones vanish.
 ghost use Rattle.std.specs.Prelude.{◌≡◌, List, [], ◌∷◌, ◌*◌, ◌/◌, ◌≤◌, length};
 ghost use Rattle.reading.specs.declared.Event.{Event};
@@ -10,14 +11,14 @@ ghost use Rattle.drain.specs.Storing.{out, put, put_all, rest};
 use reading::{EVENT_NUMBERS, Event, Link, NO_HOME, Place, kind};
 
 // All events were handed out, so many; or the room was full before the last.
-#[derive(Drop)]
+#[derive(Clone, Copy)]
 pub enum Drained {
     All(usize),
     Full,
 }
 
 // How many events were handed out, and the Str behind them that may still grow.
-#[derive(Drop)]
+#[derive(Clone, Copy)]
 struct Held {
     count: usize,
     start: u32,
@@ -25,7 +26,7 @@ struct Held {
 }
 
 // After an event of the queue.
-#[derive(Drop)]
+#[derive(Clone, Copy)]
 enum Progress {
     On(Held),
     Full,

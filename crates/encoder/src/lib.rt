@@ -1,10 +1,11 @@
+#![tactic(auto)]
 // Writing a packed list: whether an event can be written, its bytes, and those of all.
 ghost use Rattle.std.specs.Prelude.{◌≡◌, [], ◌∷◌, ◌-◌, ◌*◌, ◌≤◌, length, drop};
 ghost use Rattle.reading.specs.Events.{event_numbers};
 ghost use Rattle.listing.specs.Listing.{listed};
 ghost use Rattle.output.specs.Written.{Wrote};
 ghost use Rattle.groups.specs.Groups.{spelled_all};
-ghost use Rattle.packing.specs.Packed.{present, given, fields, fields_all, packed, idle as idle-of, flaw_of, first_flaw};
+ghost use Rattle.packing.specs.Packed.{present, given, fields, fields_all, packed, idle as idle_of, flaw_of, first_flaw};
 ghost use Rattle.encoder.specs.Encoding.{Puts, is_none, unwritten, Forward};
 
 use output::Fill;
@@ -12,7 +13,7 @@ use packing::LARGEST;
 use reading::{Event, NO_HOME};
 
 // So many bytes stand written; or an event is refused, the first such one; or the bytes were more than the room holds.
-#[derive(Drop)]
+#[derive(Clone, Copy)]
 pub enum Put {
     To(usize),
     Flaw(usize),
@@ -21,7 +22,7 @@ pub enum Put {
 
 // The fields without meaning are 0.
 fn idle(e: Event) -> bool
-    ensures { result ≡ idle-of e }
+    ensures { result ≡ idle_of e }
 {
     let from = e.home_start;
     let to = e.home_end;

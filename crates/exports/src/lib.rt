@@ -1,3 +1,4 @@
+#![tactic(auto)]
 // What the comparison with the Rust calls under C names, besides the C interface: the leaves, with tokens and cursors as numbers, and the reader on two
 // number slices.
 ghost use Rattle.std.specs.Prelude.{◌≡◌, ◌+◌, ◌/◌, ◌≤◌, ◌<◌, length, drop};
@@ -88,7 +89,7 @@ const STATES: [State; 18] = [
 
 // A token: the number of its kind, and its length. 42 is the kind of no token.
 #[repr(C)]
-#[derive(Drop)]
+#[derive(Clone, Copy)]
 pub struct Mark {
     pub kind: u32,
     pub len: usize,
@@ -96,7 +97,7 @@ pub struct Mark {
 
 // A cursor.
 #[repr(C)]
-#[derive(Drop)]
+#[derive(Clone, Copy)]
 pub struct CursorNumbers {
     pub pos: usize,
     pub escape: bool,
@@ -106,7 +107,7 @@ pub struct CursorNumbers {
 
 // A token and the cursor behind it.
 #[repr(C)]
-#[derive(Drop)]
+#[derive(Clone, Copy)]
 pub struct Step {
     pub token: Mark,
     pub state: CursorNumbers,
@@ -114,7 +115,7 @@ pub struct Step {
 
 // What a scan found.
 #[repr(C)]
-#[derive(Drop)]
+#[derive(Clone, Copy)]
 pub struct Scanned {
     pub found: bool,
     pub len: usize,
@@ -122,7 +123,7 @@ pub struct Scanned {
 
 // Two counts.
 #[repr(C)]
-#[derive(Drop)]
+#[derive(Clone, Copy)]
 pub struct Counts {
     pub first: usize,
     pub second: usize,

@@ -1,3 +1,4 @@
+#![tactic(auto)]
 // The fragment of a sheet: the reader's call, and what it hands out written in HTML.
 ghost use Rattle.std.specs.Prelude.{◌≡◌, ◌+◌, ◌/◌, ◌≤◌, length};
 ghost use Rattle.reading.specs.Events.{event_numbers};

@@ -1,3 +1,4 @@
+#![tactic(auto)]
 // Numbers in groups of seven bits: the lowest group first, the high bit set on all but the last, in the shortest form.
 ghost use Rattle.std.specs.Prelude.{◌≡◌, ◌+◌, ◌<◌, ◌≤◌, length, drop};
 ghost use Rattle.output.specs.Written.{Wrote};
@@ -14,7 +15,7 @@ const GROUPS: usize = 5;
 const FIFTH: u32 = 15;
 
 // A number, and the place behind it; or the bytes end within it, it is longer than needed, or it is too large.
-#[derive(Drop)]
+#[derive(Clone, Copy)]
 pub enum Number {
     Is(u32, usize),
     Cut,

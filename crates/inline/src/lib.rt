@@ -1,3 +1,4 @@
+#![tactic(auto)]
 // The parser of `inline.rs` over lent rooms: one token, the tokens of a line, all lines, and the end. At a brace a line stops: whoever has the lines asks
 // whether an attribute block stands there, and if not the line goes on behind it.
 ghost use Rattle.std.specs.Prelude.{◌≡◌, false, List, ℕ, ◌+◌, ◌^◌, ◌≤◌, ◌<◌, length, get_or};

@@ -1,3 +1,4 @@
+#![tactic(auto)]
 // A sheet of standard input: its lines, each with its newline.
 ghost use Rattle.std.specs.Prelude.{◌≡◌, ◌≤◌, length, take};
 ghost use Rattle.input.specs.Lines.{text_lines};
@@ -8,7 +9,7 @@ use reading::Line;
 pub const BYTES: usize = 1000;
 
 // Lines from the front of a room, and how many there are.
-#[derive(Drop)]
+#[derive(Clone, Copy)]
 pub struct Split {
     pub lines: [Line; BYTES],
     pub count: usize,

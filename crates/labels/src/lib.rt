@@ -1,3 +1,4 @@
+#![tactic(auto)]
 // Labels of links: a part of the text, or bytes built in a room that the caller lends.
 ghost use Rattle.std.specs.Prelude.{◌≡◌, [], ◌∷◌, true, false, suc, ◌+◌, ◌-◌, ◌*◌, ◌^◌, ◌≤◌, ◌<◌, length, take, drop};
 ghost use Rattle.reading.specs.Events.{queue_numbers};
@@ -9,7 +10,7 @@ use reading::{Event, Home, IN_LABELS, IN_TEXT, Link, NO_HOME, Place, kind};
 
 // What a link's label is made from: its destination's opener and its text's `[` as places in the queue, whether the destination is inline,
 // the start of the current line, where the destination ends, and the link's number.
-#[derive(Drop)]
+#[derive(Clone, Copy)]
 pub struct Destination {
     pub event: usize,
     pub span: usize,
@@ -20,7 +21,7 @@ pub struct Destination {
 }
 
 // A label's home, and the label room behind it: bytes used, and whether all labels fitted.
-#[derive(Drop)]
+#[derive(Clone, Copy)]
 pub struct LabelHome {
     pub home: Home,
     pub labels: usize,
@@ -28,14 +29,14 @@ pub struct LabelHome {
 }
 
 // A label as it is built: bytes used of the room, and whether all of it fitted so far.
-#[derive(Drop)]
+#[derive(Clone, Copy)]
 struct Built {
     used: usize,
     fits: bool,
 }
 
 // The same of a label of several lines: a piece has begun, and a newline stood behind the last one.
-#[derive(Drop)]
+#[derive(Clone, Copy)]
 struct Joint {
     used: usize,
     fits: bool,

@@ -6,13 +6,13 @@ ghost use Rattle.lex.specs.Lexer.{holding_of, fresh_of, found_by, taken_of, next
 
 use classes::Set;
 
-#[derive(Drop)]
+#[derive(Clone, Copy)]
 pub struct Token {
     pub kind: Kind,
     pub len: usize,
 }
 
-#[derive(Drop)]
+#[derive(Clone, Copy)]
 pub enum Kind {
     Text,
     Newline,
@@ -25,7 +25,7 @@ pub enum Kind {
     Seq(Sequence),
 }
 
-#[derive(Drop)]
+#[derive(Clone, Copy)]
 pub enum Delimiter {
     Brace,
     BraceAsterisk,
@@ -41,7 +41,7 @@ pub enum Delimiter {
     Paren,
 }
 
-#[derive(Drop)]
+#[derive(Clone, Copy)]
 pub enum Symbol {
     Asterisk,
     Caret,
@@ -55,7 +55,7 @@ pub enum Symbol {
     Colon,
 }
 
-#[derive(Drop)]
+#[derive(Clone, Copy)]
 pub enum Sequence {
     Backtick,
     Hyphen,
@@ -75,14 +75,14 @@ impl Sequence {
 }
 
 // A token, or none: `Option<Token>`.
-#[derive(Drop)]
+#[derive(Clone, Copy)]
 pub enum Next {
     Some(Token),
     None,
 }
 
 // The state of a lexer, without its line.
-#[derive(Drop)]
+#[derive(Clone, Copy)]
 pub struct Cursor {
     // Where the next token begins.
     pub pos: usize,
@@ -95,14 +95,14 @@ pub struct Cursor {
 }
 
 // A token, and the cursor after it.
-#[derive(Drop)]
+#[derive(Clone, Copy)]
 pub struct Lexed {
     pub token: Next,
     pub cursor: Cursor,
 }
 
 // What a byte begins.
-#[derive(Drop)]
+#[derive(Clone, Copy)]
 enum Start {
     Text,
     Sole(Kind),
@@ -115,7 +115,7 @@ enum Start {
 }
 
 // The end of a joined Text, and the token behind it.
-#[derive(Drop)]
+#[derive(Clone, Copy)]
 struct Joined {
     end: usize,
     next: Next,

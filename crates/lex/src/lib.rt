@@ -1,3 +1,4 @@
+#![tactic(auto)]
 // The lexer of inline text: `lex.rt` is `lex.rs` of the source, over a line's bytes and a cursor by value.
 mod lex;
 

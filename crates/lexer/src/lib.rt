@@ -1,3 +1,4 @@
+#![tactic(auto)]
 // The lexer of `lex.rs` as a struct: the line's bytes and the place in them. The byte classes are read from the lent table.
 ghost use Rattle.std.specs.Prelude.{◌≡◌, false};
 ghost use Rattle.classes.specs.Classes.{Ruled};

@@ -1,3 +1,4 @@
+#![tactic(auto)]
 // The end of a link: its label, and the events that become its enter and exit.
 ghost use Rattle.std.specs.Prelude.{◌≡◌, List, ℕ, ◌+◌, ◌*◌, ◌^◌, ◌≤◌, ◌<◌, length};
 ghost use Rattle.reading.specs.Events.{enter_from, queue_numbers, largest};

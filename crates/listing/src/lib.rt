@@ -1,3 +1,4 @@
+#![tactic(auto)]
 // Events as they stand in the event room, once they are handed out.
 ghost use Rattle.std.specs.Prelude.{◌≡◌, [], ◌∷◌, ◌+◌, ◌*◌, ◌≤◌, length};
 ghost use Rattle.std.proofs.lemmas.List.Edits.{sets};

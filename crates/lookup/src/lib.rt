@@ -1,3 +1,4 @@
+#![tactic(auto)]
 // The lookup of a label: the bytes of an event's home, from the text or from the label room.
 ghost use Rattle.std.specs.Prelude.{◌≡◌, length};
 ghost use Rattle.lookup.specs.Lookup.{within_of, home_in, label_of, stands_in};

@@ -1,3 +1,4 @@
+#![tactic(auto)]
 // The reader and the lookup under C names: the static library that C and Rust link.
 ghost use Rattle.std.specs.Prelude.{◌≡◌, ◌+◌, ◌/◌, ◌≤◌, length};
 ghost use Rattle.reading.specs.Events.{event_numbers};
@@ -11,7 +12,7 @@ use reading::{Answer, IN_TEXT, Line, NO_HOME};
 
 // Bytes of the text (home 1) or of the label room (home 2).
 #[repr(C)]
-#[derive(Drop)]
+#[derive(Clone, Copy)]
 pub struct Part {
     pub home: u32,
     pub start: usize,

@@ -1,3 +1,4 @@
+#![tactic(auto)]
 // The fragment under its C name: a static library of its own, so that the reader's is as it was and the compiler lays each reader into one place.
 ghost use Rattle.std.specs.Prelude.{◌≡◌, ◌+◌, ◌/◌, ◌≤◌, length};
 ghost use Rattle.reading.specs.Events.{event_numbers};

@@ -1,3 +1,4 @@
+#![tactic(auto)]
 // The calls for a packed list under their C names.
 ghost use Rattle.std.specs.Prelude.{◌≡◌, ◌/◌, ◌≤◌, length};
 ghost use Rattle.reading.specs.Events.{event_numbers};

@@ -1,14 +1,15 @@
+#![tactic(auto)]
 // What a call leaves: the answer of a refusal, and what every room holds at the end.
 ghost use Rattle.std.specs.Prelude.{◌≡◌, ◌*◌, ◌^◌, ◌≤◌, ◌<◌, length};
 ghost use Rattle.reading.specs.Events.{event_numbers};
-ghost use Rattle.reading.specs.Questions.{refusal as refusal-of, zeros, refuses, cleared};
+ghost use Rattle.reading.specs.Questions.{refusal as refusal_of, zeros, refuses, cleared};
 ghost use Rattle.outcome.specs.Outcomes.{rooms_of, outcome_of, kept, accepts};
 
 use reading::{Answer, EVENT_NUMBERS};
 
 // Nothing is handed out.
 pub fn refusal(code: u32, place: u32) -> Answer
-    ensures { result ≡ refusal-of code place }
+    ensures { result ≡ refusal_of code place }
 {
     Answer {
         code: code,

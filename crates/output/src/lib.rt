@@ -1,3 +1,4 @@
+#![tactic(auto)]
 // Bytes written behind one another from the front of a lent room, as long as it holds them.
 ghost use Rattle.std.specs.Prelude.{◌≤◌, [], ◌∷◌, length};
 ghost use Rattle.output.specs.Written.{Wrote};
@@ -6,7 +7,7 @@ ghost use Rattle.output.specs.Written.{Wrote};
 pub const OUTPUT_ROOM: u32 = 11;
 
 // So many bytes stand written; or they were more than the room holds.
-#[derive(Drop)]
+#[derive(Clone, Copy)]
 pub enum Fill {
     To(usize),
     Full,

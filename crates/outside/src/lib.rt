@@ -1,3 +1,4 @@
+#![tactic(auto)]
 // A token outside verbatim, in the order of the source's `parse_event`: backticks, a brace, the scans ahead, containers, dots and dashes. Only what
 // may end a link touches the label room; all else leaves it, whatever sheet the token is of, and is lifted in `outside`.
 ghost use Rattle.std.specs.Prelude.{List, ℕ, drop};

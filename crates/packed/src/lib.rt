@@ -1,9 +1,10 @@
+#![tactic(auto)]
 // A packed list of events: the calls that write one and read one.
 ghost use Rattle.std.specs.Prelude.{◌≡◌, true, ◌*◌, ◌/◌, ◌≤◌, length};
 ghost use Rattle.reading.specs.Events.{event_numbers};
 ghost use Rattle.reading.specs.Questions.{zeros};
 ghost use Rattle.encoder.specs.Encoding.{Within};
-ghost use Rattle.packed.specs.Calls.{call, refusal as refusal-of, acceptance as acceptance-of, packing, unpacking};
+ghost use Rattle.packed.specs.Calls.{call, refusal as refusal_of, acceptance as acceptance_of, packing, unpacking};
 ghost use Rattle.packed.specs.Calls.{restoring, restored, enough_bytes, enough_events};
 ghost use Rattle.packed.specs.Settling.{wrote_as, read_as};
 
@@ -19,7 +20,7 @@ pub const PACKED_ROOM: u32 = 13;
 
 // The answer: code, place, and how many bytes or events were written.
 #[repr(C)]
-#[derive(Drop)]
+#[derive(Clone, Copy)]
 pub struct PackedAnswer {
     pub code: u32,
     pub place: u64,
@@ -27,7 +28,7 @@ pub struct PackedAnswer {
 }
 
 // What comes of a packed list: so many events; a fault, and its place; or too little room.
-#[derive(Drop)]
+#[derive(Clone, Copy)]
 pub enum Restored {
     All(usize),
     Faulty(Fault, usize),
@@ -36,7 +37,7 @@ pub enum Restored {
 
 // Nothing is written.
 fn refusal(code: u32, place: usize) -> PackedAnswer
-    ensures { result ≡ refusal-of code place }
+    ensures { result ≡ refusal_of code place }
 {
     PackedAnswer {
         code: code,
@@ -46,7 +47,7 @@ fn refusal(code: u32, place: usize) -> PackedAnswer
 }
 
 fn acceptance(count: usize) -> PackedAnswer
-    ensures { result ≡ acceptance-of count }
+    ensures { result ≡ acceptance_of count }
 {
     PackedAnswer {
         code: 0,

@@ -1,7 +1,8 @@
+#![tactic(auto)]
 // What a packed list of events is made of: the faults of one, and which numbers an event of a kind has.
 ghost use Rattle.std.specs.Prelude.{◌≡◌, ◌≤◌};
-ghost use Rattle.reading.specs.Homes.{container_of, known as Known-of, has_home as has-home-of, has_link as has-link-of};
-ghost use Rattle.packing.specs.Packed.{may_have as may-have-of};
+ghost use Rattle.reading.specs.Homes.{container_of, known as Known-of, has_home as has_home_of, has_link as has_link_of};
+ghost use Rattle.packing.specs.Packed.{may_have as may_have_of};
 
 use reading::{IN_LABELS, NO_HOME, container, kind};
 
@@ -9,7 +10,7 @@ use reading::{IN_LABELS, NO_HOME, container, kind};
 pub const LARGEST: u32 = 4294967295;
 
 // What is wrong with a packed list.
-#[derive(Drop)]
+#[derive(Clone, Copy)]
 pub enum Fault {
     // It ends within a number.
     Cut,
@@ -50,7 +51,7 @@ pub fn known(k: u32) -> bool
 
 // A kind with a home.
 pub fn has_home(k: u32) -> bool
-    ensures { result ≡ has-home-of k }
+    ensures { result ≡ has_home_of k }
 {
     if k < kind::ENTER {
         return (kind::SYMBOL <= k) & (k <= kind::FOOTNOTE_REFERENCE);
@@ -61,7 +62,7 @@ pub fn has_home(k: u32) -> bool
 
 // A kind with a link number.
 pub fn has_link(k: u32) -> bool
-    ensures { result ≡ has-link-of k }
+    ensures { result ≡ has_link_of k }
 {
     if k < kind::ENTER {
         return false;
@@ -72,7 +73,7 @@ pub fn has_link(k: u32) -> bool
 
 // A home that a kind may have.
 pub fn may_have(k: u32, home: u32) -> bool
-    ensures { result ≡ may-have-of k home }
+    ensures { result ≡ may_have_of k home }
 {
     (home == NO_HOME) | ((home <= IN_LABELS) & has_home(k))
 }

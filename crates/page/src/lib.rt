@@ -1,3 +1,4 @@
+#![tactic(auto)]
 // The program behind `./fragment`: a sheet of standard input is read, and its fragment is written to standard output.
 ghost use Rattle.std.specs.Prelude.{◌≡◌, ◌≤◌, length, take};
 ghost use Rattle.outcome.specs.Outcomes.{rooms_of};

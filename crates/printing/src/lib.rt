@@ -1,3 +1,4 @@
+#![tactic(auto)]
 // What the programs print: bytes, numbers and events, a line each, and why a sheet is refused, in plain words.
 ghost use Rattle.std.specs.Prelude.{◌≡◌, min};
 

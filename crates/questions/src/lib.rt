@@ -1,3 +1,4 @@
+#![tactic(auto)]
 // The questions asked of a sheet before it is read, 1 to 6: the reading, the limits, the lines in one walk, the rooms.
 ghost use Rattle.std.specs.Prelude.{◌≡◌, ◌+◌, ◌^◌, ◌≤◌, ◌<◌, length};
 ghost use Rattle.reading.specs.Events.{largest};
@@ -7,7 +8,7 @@ ghost use Rattle.questions.specs.Asking.{limit, checked_lines, room_code, asked_
 use reading::{Answer, LARGEST, OPENER_NUMBERS, QUEUE_NUMBERS, code};
 
 // What is answered of the lines: their bytes, or the first that lies outside the text or starts before the end of the one before.
-#[derive(Drop)]
+#[derive(Clone, Copy)]
 pub enum Lines {
     Fed(usize),
     Outside(usize),
@@ -15,14 +16,14 @@ pub enum Lines {
 }
 
 // The first line that starts before the end of the one before, if one was met.
-#[derive(Drop)]
+#[derive(Clone, Copy)]
 pub enum Early {
     At(usize),
     No,
 }
 
 // Behind some lines: the end of the last, their bytes, and the first early one.
-#[derive(Drop)]
+#[derive(Clone, Copy)]
 pub struct LineWalk {
     pub end: usize,
     pub total: usize,
@@ -30,14 +31,14 @@ pub struct LineWalk {
 }
 
 // After a line.
-#[derive(Drop)]
+#[derive(Clone, Copy)]
 pub enum WalkedLine {
     On(LineWalk),
     Outside,
 }
 
 // What the questions before reading say: go on, or the refusal.
-#[derive(Drop)]
+#[derive(Clone, Copy)]
 pub enum Asked {
     Fed,
     Refused(Answer),

@@ -1,3 +1,4 @@
+#![tactic(auto)]
 // The reader: a sheet is asked, read into lent rooms and judged.
 ghost use Rattle.std.specs.Prelude.{◌≡◌, ◌+◌, ◌/◌, ◌^◌, ◌≤◌, ◌<◌, length, take};
 ghost use Rattle.reading.specs.Events.{event_numbers};
@@ -5,7 +6,7 @@ ghost use Rattle.reading.specs.Draining.{drain};
 ghost use Rattle.reading.specs.Reading.{sheet, read as read_of};
 ghost use Rattle.reading.specs.Questions.{total, counting, label_room, handed_out, judged, outcome};
 ghost use Rattle.reading.specs.Walked.{Accepted};
-ghost use Rattle.rooms.specs.Records.{events as events-of};
+ghost use Rattle.rooms.specs.Records.{events as events_of};
 ghost use Rattle.rooms.specs.Standing.{stands};
 ghost use Rattle.inline.specs.Lines.{lines_of};
 ghost use Rattle.inline.specs.Asks.{StandsFor};
@@ -19,7 +20,7 @@ use reading::{Answer, LABEL_LIMIT, Refused, code};
 use rooms::Parser;
 
 // Whether an attribute block stands outside verbatim, and where the first does.
-#[derive(Drop)]
+#[derive(Clone, Copy)]
 struct Brace {
     met: bool,
     at: u32,
@@ -89,7 +90,7 @@ fn hand_out(
 ) -> Answer
     requires refused_value { p.refused ≡ Refused.No }
     requires parsed { Parsed p queue.old labels.old }
-    ensures { outcome_of result events.new queue.new openers.new labels.new ≡ handed_out (drain (events-of p.events queue.old)) (take p.labels labels.old) (rooms_of events.old queue.old openers.entry.now labels.old) }
+    ensures { outcome_of result events.new queue.new openers.new labels.new ≡ handed_out (drain (events_of p.events queue.old)) (take p.labels labels.old) (rooms_of events.old queue.old openers.entry.now labels.old) }
 {
     let n = p.events;
     let bytes = p.labels;

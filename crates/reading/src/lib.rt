@@ -1,3 +1,4 @@
+#![tactic(auto)]
 // The types of a reading: lines, events, openers, and the parts of the parser's state. The definition in `specs/` and the parser share
 // them.
 pub mod closer;
@@ -30,22 +31,22 @@ pub const IN_LABELS: u32 = 2;
 
 // A line record of the sheet: from start to before end.
 #[repr(C)]
-#[derive(Drop)]
+#[derive(Clone, Copy)]
 pub struct Line {
     pub start: usize,
     pub end: usize,
 }
 
 // A byte place, of the text or of the label room.
-#[derive(Drop)]
+#[derive(Clone, Copy)]
 pub struct Place(pub u32);
 
 // A link number: links count from 0 in the order in which they close.
-#[derive(Drop)]
+#[derive(Clone, Copy)]
 pub struct Link(pub u32);
 
 // What an event holds beside its kind and span: the home, from where to where in it, and the link number.
-#[derive(Drop)]
+#[derive(Clone, Copy)]
 pub struct Home {
     pub home: u32,
     pub start: Place,
@@ -54,7 +55,7 @@ pub struct Home {
 }
 
 // An event, as it is handed out.
-#[derive(Drop)]
+#[derive(Clone, Copy)]
 pub struct Event {
     pub kind: u32,
     pub start: Place,
@@ -66,7 +67,7 @@ pub struct Event {
 }
 
 // The sorts of openers. Those written with a brace are one-way; `*`, `_`, `^`, `~` without one and the quotes are two-way.
-#[derive(Drop)]
+#[derive(Clone, Copy)]
 pub enum Sort {
     Span,
     Image,
@@ -90,7 +91,7 @@ pub enum Sort {
 }
 
 // A potential opener: its sort, the place of its event in the queue and, of a link, that of the event of its text's `[`.
-#[derive(Drop)]
+#[derive(Clone, Copy)]
 pub struct Opener {
     pub sort: Sort,
     pub event: usize,
@@ -98,14 +99,14 @@ pub struct Opener {
 }
 
 // What a token opens.
-#[derive(Drop)]
+#[derive(Clone, Copy)]
 pub enum Opens {
     Some(Sort),
     None,
 }
 
 // A token as the rules on containers see it: what it opens, the mark that it closes (0 for none), and the kind of event that it is alone.
-#[derive(Drop)]
+#[derive(Clone, Copy)]
 pub struct Marks {
     pub opens: Opens,
     pub closes: u32,
@@ -113,7 +114,7 @@ pub struct Marks {
 }
 
 // What a token outside verbatim is looked at as, first.
-#[derive(Drop)]
+#[derive(Clone, Copy)]
 pub enum Role {
     Backticks,
     Brace,
@@ -127,21 +128,21 @@ pub enum Role {
 }
 
 // The two events of a pair: what the opener's event becomes, and what is put at its end.
-#[derive(Drop)]
+#[derive(Clone, Copy)]
 pub struct Pair {
     pub first: u32,
     pub second: u32,
 }
 
 // A link: its container, and whether its destination is inline.
-#[derive(Drop)]
+#[derive(Clone, Copy)]
 pub struct Target {
     pub container: u32,
     pub inline: bool,
 }
 
 // What the closing of an opener makes: a pair of events; a span, of an image or not, that may go on as a link; or a link.
-#[derive(Drop)]
+#[derive(Clone, Copy)]
 pub enum DelimEventKind {
     Pair(Pair),
     Span(bool),
@@ -150,7 +151,7 @@ pub enum DelimEventKind {
 
 // An open verbatim: the place of its enter in the queue, the length of its run, whether non-blank content was seen, whether the last of it
 // was a backtick run, how long the queue was just behind it, and whether the opener stands on the current line.
-#[derive(Drop)]
+#[derive(Clone, Copy)]
 pub struct Verbatim {
     pub event: usize,
     pub len: usize,
@@ -160,14 +161,14 @@ pub struct Verbatim {
     pub here: bool,
 }
 
-#[derive(Drop)]
+#[derive(Clone, Copy)]
 pub enum Inside {
     Verbatim(Verbatim),
     No,
 }
 
 // The newest event: whether it is a Str, the end of one, and how many dollars a backtick run right behind it would take.
-#[derive(Drop)]
+#[derive(Clone, Copy)]
 pub struct Last {
     pub str: bool,
     pub end: Place,
@@ -175,7 +176,7 @@ pub struct Last {
 }
 
 // The brace outside verbatim at which the reading stopped: at the end, the first at which an attribute block stands.
-#[derive(Drop)]
+#[derive(Clone, Copy)]
 pub enum Refused {
     At(Place),
     No,
@@ -183,7 +184,7 @@ pub enum Refused {
 
 // The answer: code, place, how many events, how many label bytes.
 #[repr(C)]
-#[derive(Drop)]
+#[derive(Clone, Copy)]
 pub struct Answer {
     pub code: u32,
     pub place: u32,

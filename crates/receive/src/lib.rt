@@ -1,3 +1,4 @@
+#![tactic(auto)]
 // The program behind `./unpack`: a packed list of standard input is read, and its events and the answer are printed.
 use packed::{FAULTY, PACKED_ROOM, Restored};
 use packing::Fault;

@@ -1,3 +1,4 @@
+#![tactic(auto)]
 // The reader on line records: a lent slice of starts and ends, over the steps of the reader on two number slices.
 ghost use Rattle.std.specs.Prelude.{◌≡◌, ◌+◌, ◌/◌, ◌^◌, ◌≤◌, ◌<◌, length, get_or};
 ghost use Rattle.reading.specs.Events.{event_numbers, largest};

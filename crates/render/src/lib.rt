@@ -1,3 +1,4 @@
+#![tactic(auto)]
 // The fragment of a list of events: bytes of the sheet, one event, all events.
 ghost use Rattle.std.specs.Prelude.{◌≡◌, ◌+◌, ◌*◌, ◌≤◌, min, length};
 ghost use Rattle.reading.specs.Events.{event_numbers};

@@ -1,3 +1,4 @@
+#![tactic(auto)]
 // Replays the stored sheets: each is read in rooms of the stored sizes, and the answer and every number of every room are compared. Prints how
 // many cases there were and how many differ.
 // A case is a line of numbers: the reading; how many bytes, starts and ends, each with these behind it; the sizes of the rooms for events, queue,
@@ -14,7 +15,7 @@ const OLD: u32 = 2779096485;
 const OLD_BYTE: u8 = 165;
 
 // A stored answer, and the place behind it.
-#[derive(Drop)]
+#[derive(Clone, Copy)]
 struct Stored {
     answer: Answer,
     next: usize,

@@ -1,3 +1,4 @@
+#![tactic(auto)]
 // The parser's state by value, and its records in lent rooms.
 ghost use Rattle.std.specs.Prelude.{◌≡◌, List, [], ◌∷◌, ◌++◌, ℕ, ◌+◌, ◌*◌, ◌^◌, ◌≤◌, ◌<◌, length};
 ghost use Rattle.std.proofs.lemmas.List.Edits.{sets};
@@ -15,7 +16,7 @@ use reading::{
 
 // What a reading is at between two tokens: the cursor in the line, how many records the queue and the openers hold, the open verbatim, the
 // newest event, the label bytes built and whether all of them fitted, the next link's number, and the brace at which it stands.
-#[derive(Drop)]
+#[derive(Clone, Copy)]
 pub struct Parser {
     pub cursor: Cursor,
     pub events: usize,
@@ -29,21 +30,21 @@ pub struct Parser {
 }
 
 // What is known of a line beside its bytes: where it starts, and the byte before it, 0 at the text's start.
-#[derive(Drop)]
+#[derive(Clone, Copy)]
 pub struct Margin {
     pub base: usize,
     pub before: u8,
 }
 
 // A token within its line.
-#[derive(Drop)]
+#[derive(Clone, Copy)]
 pub struct Span {
     pub from: usize,
     pub to: usize,
 }
 
 // The place of an opener in its room.
-#[derive(Drop)]
+#[derive(Clone, Copy)]
 pub enum Found {
     At(usize),
     Nothing,

@@ -1,3 +1,4 @@
+#![tactic(auto)]
 // The scans ahead of `inline.rs`, over a line from the place behind what opens.
 ghost use Rattle.std.specs.Prelude.{◌≡◌, ◌<◌, drop};
 ghost use Rattle.classes.specs.Classes.{Ruled};
@@ -6,7 +7,7 @@ ghost use Rattle.scan.specs.Scans.{closed_at, upto_of, autolink_of, symbol_of, f
 use classes::Set;
 
 // What a scan found: the length up to what closes, or nothing.
-#[derive(Drop)]
+#[derive(Clone, Copy)]
 pub enum Ahead {
     Some(usize),
     None,

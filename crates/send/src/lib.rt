@@ -1,3 +1,4 @@
+#![tactic(auto)]
 // The program behind `./pack`: a sheet of standard input is read, and the list of its events is written to standard output, packed.
 ghost use Rattle.std.specs.Prelude.{◌≡◌, ◌/◌, ◌≤◌, length, take};
 ghost use Rattle.reading.specs.Events.{event_numbers};

@@ -1,3 +1,4 @@
+#![tactic(auto)]
 // `sheet`, on no input.
 fn main() {
     show::show_input();

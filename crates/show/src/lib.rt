@@ -1,3 +1,4 @@
+#![tactic(auto)]
 // The program behind `./sheet`: a sheet of standard input is read, and its events and the answer are printed.
 ghost use Rattle.std.specs.Prelude.{◌≡◌, ◌≤◌, length, take};
 ghost use Rattle.reading.specs.Questions.{outcome};

@@ -1,23 +1,24 @@
+#![tactic(auto)]
 // Stored answers of the Rust, as decimal numbers with one byte behind each: what the programs that replay them share.
 ghost use Rattle.std.specs.Prelude.{◌≡◌, ◌%◌, length};
 ghost use Rattle.stored.specs.Numbers.{is_digit, number_at, Filled, byte, place};
 
 // A number of the sample, and the place behind it.
-#[derive(Drop)]
+#[derive(Clone, Copy)]
 pub struct Number {
     pub value: u64,
     pub next: usize,
 }
 
 // The place behind a case, and whether our answer is the stored one.
-#[derive(Drop)]
+#[derive(Clone, Copy)]
 pub struct Case {
     pub next: usize,
     pub same: bool,
 }
 
 // How many cases there were, and how many differ.
-#[derive(Drop)]
+#[derive(Clone, Copy)]
 pub struct Report {
     pub cases: u64,
     pub differ: u64,

@@ -1,3 +1,4 @@
+#![tactic(auto)]
 // What tokens and openers are to the parser: each a flat `match`, proved equal to the tables of the definition. Kinds of events, containers and
 // closing marks are the numbers that `reading` names.
 ghost use Rattle.std.specs.Prelude.{◌≡◌};
@@ -13,7 +14,7 @@ use lex::{Delimiter, Kind, Sequence, Symbol};
 use reading::{DelimEventKind, Marks, Opens, Pair, Role, Sort, Target, closer, container, kind};
 
 // The bracket that a `]` takes along, if it does: whether it is that of an inline link.
-#[derive(Drop)]
+#[derive(Clone, Copy)]
 pub enum Taking {
     Along(bool),
     Alone,

@@ -1,3 +1,4 @@
+#![tactic(auto)]
 // What a container's enter and exit write, and an atom: the bytes that are the same in every sheet.
 ghost use Rattle.std.specs.Prelude.{◌≤◌, length};
 ghost use Rattle.output.specs.Written.{Wrote};

@@ -1,3 +1,4 @@
+#![tactic(auto)]
 // Prints the tokens of the first line of standard input: start, end and kind of each. At most 1,000 bytes are read.
 ghost use Rattle.std.specs.Prelude.{◌≤◌, length};
 

@@ -1,3 +1,4 @@
+#![tactic(auto)]
 // Verbatim, raw format and math: `parse_verbatim` of the source.
 ghost use Rattle.std.specs.Prelude.{◌≡◌, List, ℕ, ◌+◌, ◌*◌, ◌≤◌, ◌<◌, length, take};
 ghost use Rattle.classes.specs.Classes.{Ruled};
@@ -15,7 +16,7 @@ use rooms::{Margin, Parser, Span};
 use scan::Ahead;
 
 // What an event is by its kind: an enter or an exit, with its container, or neither.
-#[derive(Drop)]
+#[derive(Clone, Copy)]
 enum EventKind {
     Atom(u32),
     Enter(u32),

@@ -1,3 +1,4 @@
+#![tactic(auto)]
 // What comes of the reader's answer: questions 10 and 11, and what the call for a fragment leaves.
 ghost use Rattle.std.specs.Prelude.{◌≡◌, ◌*◌, ◌≤◌, length};
 ghost use Rattle.reading.specs.Events.{event_numbers};
@@ -6,7 +7,7 @@ ghost use Rattle.outcome.specs.Outcomes.{rooms_of, outcome_of};
 ghost use Rattle.output.specs.Written.{written, Within};
 ghost use Rattle.listing.specs.Listing.{listed};
 ghost use Rattle.markup.specs.Markup.{fragment};
-ghost use Rattle.verdict.specs.Fragments.{barred as barred-of, first_barred, refusal as refusal-of, fragmented_of, behind};
+ghost use Rattle.verdict.specs.Fragments.{barred as barred_of, first_barred, refusal as refusal_of, fragmented_of, behind};
 ghost use Rattle.verdict.specs.Judging.{showing, settled, shown_as, judging, judged_as, Fits, Listed};
 
 use output::{Fill, OUTPUT_ROOM};
@@ -19,7 +20,7 @@ const ENTER_REFERENCE_LINK: u32 = kind::ENTER + container::REFERENCE_LINK;
 
 // The answer: code, place, how many events, how many label bytes, and the length of the fragment.
 #[repr(C)]
-#[derive(Drop)]
+#[derive(Clone, Copy)]
 pub struct FragmentAnswer {
     pub code: u32,
     pub place: u32,
@@ -29,7 +30,7 @@ pub struct FragmentAnswer {
 }
 
 // All is written, so many bytes; or there is a link, which begins there; or the output room is too short.
-#[derive(Drop)]
+#[derive(Clone, Copy)]
 enum Shown {
     All(usize),
     Linked(u32),
@@ -38,7 +39,7 @@ enum Shown {
 
 // A link, an image, an autolink or a footnote reference.
 fn barred(k: u32) -> bool
-    ensures { result ≡ barred-of k }
+    ensures { result ≡ barred_of k }
 {
     (k == kind::FOOTNOTE_REFERENCE) | ((ENTER_REFERENCE_LINK <= k) & (k <= kind::ENTER_AUTOLINK))
 }
@@ -97,7 +98,7 @@ fn show(text: &[u8], events: &[u32], n: usize, out: &mut [u8]) -> Shown
 
 // Nothing is handed out.
 fn refusal(code: u32, place: u32) -> FragmentAnswer
-    ensures { result ≡ refusal-of code place }
+    ensures { result ≡ refusal_of code place }
 {
     FragmentAnswer {
         code: code,
@@ -117,7 +118,7 @@ fn refuse(
     openers: &mut [u32],
     labels: &mut [u8],
 ) -> FragmentAnswer
-    ensures { judging result (rooms_of events.new queue.new openers.new labels.new) ≡ judging (refusal-of code place)
+    ensures { judging result (rooms_of events.new queue.new openers.new labels.new) ≡ judging (refusal_of code place)
         (cleared (rooms_of events.old queue.old openers.old labels.old)) }
 {
     outcome::refuse(code, place, events, queue, openers, labels);
