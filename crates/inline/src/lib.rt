@@ -7,7 +7,7 @@ ghost use Rattle.lex.specs.Lexer.{fresh_of};
 ghost use Rattle.attr.specs.Attributes.{fed};
 ghost use Rattle.reading.specs.Machine.{byte_before, view_of};
 ghost use Rattle.reading.specs.Blocks.{block_at};
-ghost use Rattle.reading.specs.Reading.{step, steps, line as Line-of, views, resumed, read as read_of, start, sheet, unasked};
+ghost use Rattle.reading.specs.Reading.{step, steps, line as line_of, views, resumed, read as read_of, start, sheet, unasked};
 ghost use Rattle.verbatim.specs.Opened.{Begun};
 ghost use Rattle.rooms.specs.Standing.{stands, turn, viewed, Stepped, Changed, Room, staying};
 ghost use Rattle.inline.specs.Asks.{Before, Lined, Behind, Amid, BraceAt, Within, Sheeted, StandsFor, ending, over_of, Closing};
@@ -238,7 +238,7 @@ fn parse_line(
     requires behind { Behind text.now (lines_of starts.now ends.now) i reading (stands p queue.old openers.old labels.old) queue.old openers.old labels.old }
     requires labels_in_bounds { p.labels ≤ length labels.old }
     requires ruled { Ruled flags.now }
-    ensures { StandsFor result queue.new openers.new labels.new (Line-of (sheet text.now (lines_of starts.now ends.now) reading (length labels.old)) (view_of text.now (get_or (lines_of starts.now
+    ensures { StandsFor result queue.new openers.new labels.new (line_of (sheet text.now (lines_of starts.now ends.now) reading (length labels.old)) (view_of text.now (get_or (lines_of starts.now
         ends.now) i none)) (stands p queue.old openers.old labels.old)) }
 {
     let before = p.refused;

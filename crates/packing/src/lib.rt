@@ -1,7 +1,7 @@
 #![tactic(auto)]
 // What a packed list of events is made of: the faults of one, and which numbers an event of a kind has.
 ghost use Rattle.std.specs.Prelude.{◌≡◌, ◌≤◌};
-ghost use Rattle.reading.specs.Homes.{container_of, known as Known-of, has_home as has_home_of, has_link as has_link_of};
+ghost use Rattle.reading.specs.Homes.{container_of, known as known_of, has_home as has_home_of, has_link as has_link_of};
 ghost use Rattle.packing.specs.Packed.{may_have as may_have_of};
 
 use reading::{IN_LABELS, NO_HOME, container, kind};
@@ -40,7 +40,7 @@ fn container(k: u32) -> u32
 
 // A kind that is handed out.
 pub fn known(k: u32) -> bool
-    ensures { result ≡ Known-of k }
+    ensures { result ≡ known_of k }
 {
     if k < kind::ENTER {
         return (kind::STR <= k) & (k <= kind::FOOTNOTE_REFERENCE);

@@ -4,7 +4,7 @@ ghost use Rattle.std.specs.Prelude.{◌≡◌, ◌+◌, ◌/◌, ◌^◌, ◌≤
 ghost use Rattle.reading.specs.Events.{event_numbers, largest};
 ghost use Rattle.reading.specs.Machine.{view_of};
 ghost use Rattle.reading.specs.Blocks.{block_at};
-ghost use Rattle.reading.specs.Reading.{sheet, views, line as Line-of, read as read_of};
+ghost use Rattle.reading.specs.Reading.{sheet, views, line as line_of, read as read_of};
 ghost use Rattle.reading.specs.Questions.{total, label_room, outcome};
 ghost use Rattle.reading.specs.Walked.{Accepted};
 ghost use Rattle.inline.specs.Lines.{none};
@@ -112,7 +112,7 @@ fn parse_line(
     requires behind { Behind text.now lines.now i reading (stands p queue.old openers.old labels.old) queue.old openers.old labels.old }
     requires labels_in_bounds { p.labels ≤ length labels.old }
     requires ruled { Ruled flags.now }
-    ensures { StandsFor result queue.new openers.new labels.new (Line-of (sheet text.now lines.now reading (length labels.old)) (view_of text.now (get_or lines.now i none)) (stands p queue.old openers.old labels.old)) }
+    ensures { StandsFor result queue.new openers.new labels.new (line_of (sheet text.now lines.now reading (length labels.old)) (view_of text.now (get_or lines.now i none)) (stands p queue.old openers.old labels.old)) }
 {
     let before = p.refused;
     let Refused::No = before else {

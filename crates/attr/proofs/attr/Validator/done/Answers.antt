@@ -1,0 +1,19 @@
+-- `attr::attr::Validator::done` meets its contract: the test is computed over what a pattern lists.
+use mathlib.Core.Path.{refl, sym}
+use mathlib.Core.List.{◌∷◌}
+use mathlib.Core.Bool.{not}
+use borrow.Author.Tests.{not-true}
+use Rattle.attr.specs.Attributes.{is_done}
+use Rattle.attr.proofs.States.{all, listed-true}
+use Rattle.attr.proofs.attr.Validator.done.Goals as goal
+
+pub returns-in-Done : goal.returns-in-Done
+unfolding is_done
+returns-in-Done c = rw c.in-Done.is
+
+pub returns-in_default : goal.returns-in_default
+unfolding is_done all
+returns-in_default c = sym
+    (not-true _
+    (listed-true (λ s. not (is_done s)) (0 ∷ 1 ∷ 2 ∷ 3 ∷ 4 ∷ 5 ∷ 6 ∷ 7 ∷ 8 ∷ 9 ∷ 10 ∷ 11 ∷ 12 ∷ 13 ∷ 14 ∷ 15 ∷ 17 ∷ []) c.args.self.state refl
+    c.in_default.in_default-own.keys2))

@@ -1,0 +1,12 @@
+-- `attr::attr::escaped` meets its contract: the tests are those of its table, in order.
+use borrow.Author.Tests.{eq-eqb, ne_eqb}
+use Rattle.attr.specs.Attributes.{by}
+use Rattle.attr.proofs.attr.escaped.Goals as goal
+
+pub returns-then-c-eq10 : goal.returns-then-c-eq10
+unfolding by
+returns-then-c-eq10 c = rw (eq-eqb _ 10 c.if-c-eq10.true, by)
+
+pub returns : goal.returns
+unfolding by
+returns c = rw (ne_eqb _ 10 c.if-c-eq10.false, by)

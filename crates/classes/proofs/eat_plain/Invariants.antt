@@ -1,0 +1,13 @@
+-- `classes::eat_plain` meets its contract: `Passed` holds at the loop's head. The measure is what is left of the bytes.
+use Prim.Native.Nat.{◌-◌}
+use lib.ListN.{length}
+use Rattle.classes.specs.declared.Set.TheVariants.{Plain}
+use Rattle.classes.specs.Sets.{in_set}
+use Rattle.classes.proofs.Runs.{Passed}
+use Rattle.classes.proofs.eat_plain.Given as goal
+
+abbrev pub invariant-loop-n : goal.invariant-loop-n
+invariant-loop-n l = Passed (in_set Plain) l.s l.n
+
+abbrev pub decreases-loop-n : goal.decreases-loop-n
+decreases-loop-n l = length l.s - l.n
