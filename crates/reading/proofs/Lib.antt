@@ -19,7 +19,7 @@ pub mod Links
 pub mod Braces
 pub mod Drains
 pub mod Feeding
-pub mod Hidden
+pub mod Hiding
 pub mod Homing
 pub mod Dropping
 pub mod Alike

@@ -36,7 +36,7 @@ use Rattle.reading.proofs.Stepping.{met, either, either₂}
 use Rattle.reading.proofs.Drains.{drained-walk, drained-covers, drain-few, covers-ordered, under_one}
 use Rattle.reading.proofs.Feeding.{Rising, Apart, Stood, lines-stood, lines-blank, start-stood, during-few, read_out, view-shows, begun-held}
 use Rattle.reading.proofs.Feeding.{steps_all}
-use Rattle.reading.proofs.Hidden.{shown-within, left-hidden, fed-shown}
+use Rattle.reading.proofs.Hiding.{shown-within, left-hidden, fed-shown}
 use Rattle.reading.proofs.Homing.{events-homed}
 
 lower : (a b : ℕ) → ltb (suc a) (suc b) ≡ false → ltb a b ≡ false

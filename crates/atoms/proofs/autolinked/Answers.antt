@@ -1,69 +1,36 @@
 -- `atoms::autolinked` meets its contract, by the laws of `Putting`.
-use mathlib.Core.List.{◌∷◌}
+use mathlib.Core.List.{[], ◌∷◌}
 use native.Mathlib.Omega.{arith}
 use Rattle.atoms.proofs.Putting.{homed-as, put-events, autolinked-change}
 use Rattle.atoms.proofs.autolinked.Goals as goal
 
 pub homed-requires-2 : goal.homed-requires-2
-homed-requires-2 c = let pre = c.requires in
-    (omega (arith, pre), omega (arith, pre))
--- asked: ['i_bound', 'j_bound']
+homed-requires-2 c = record { i_bound = omega (arith, c.requires); j_bound = omega (arith, c.requires) }
 
 pub push-named-requires : goal.push-named-requires
-push-named-requires c = let pre = c.requires in
-    let push = c.push-entered in
-    let args = c.args in
-    let homed = c.homed in
-    let no_str = c.no_str-none in
-    omega (arith, pre, push.auto.0, put-events args.p args.queue.now [] push.result push.new.0 (homed.result ∷ []) no_str.result (push.ensures []))
+push-named-requires c = omega (arith, c.requires, c.push-entered.auto.queue, put-events c.args.p c.args.queue.now [] c.push-entered.result c.push-entered.new.queue (c.homed.result ∷ []) c.no_str-none.result (c.push-entered.ensures []))
 
 pub overflow_add-end-2 : goal.overflow_add-end-2
-overflow_add-end-2 c = let pre = c.requires in
-    omega (arith, pre)
+overflow_add-end-2 c = omega (arith, c.requires)
 
 pub homed-requires-3 : goal.homed-requires-3
-homed-requires-3 c = let pre = c.requires in
-    (omega (arith, pre), omega (arith, pre))
--- asked: ['i_bound', 'j_bound']
+homed-requires-3 c = record { i_bound = omega (arith, c.requires); j_bound = omega (arith, c.requires) }
 
 pub push-out-requires : goal.push-out-requires
-push-out-requires c = let args = c.args in
-    let push = c.push-entered in
-    let homed = c.homed in
-    let no_str = c.no_str-none in
-    let push2 = c.push-named in
-    let homed2 = c.homed-2 in
-    let pre = c.requires in
-    let one = put-events args.p args.queue.now [] push.result push.new.0 (homed.result ∷ []) no_str.result (push.ensures []) in
-    let two = put-events push.result push.new.0 [] push2.result push2.new.0 (homed2.result ∷ []) no_str.result (push2.ensures []) in
-    omega (arith, pre, push.auto.0, push2.auto.0, one, two)
+push-out-requires c = let one = put-events c.args.p c.args.queue.now [] c.push-entered.result c.push-entered.new.queue (c.homed.result ∷ []) c.no_str-none.result (c.push-entered.ensures []) in
+    let two = put-events c.push-entered.result c.push-entered.new.queue [] c.push-named.result c.push-named.new.queue (c.homed-2.result ∷ []) c.no_str-none.result (c.push-named.ensures []) in
+    omega (arith, c.requires, c.push-entered.auto.queue, c.push-named.auto.queue, one, two)
 
 pub overflow_add-end-3 : goal.overflow_add-end-3
-overflow_add-end-3 c = let pre = c.requires in
-    omega (arith, pre)
+overflow_add-end-3 c = omega (arith, c.requires)
 
 pub shape_of-queue : goal.shape_of-queue
-shape_of-queue c = let push = c.push-entered in
-    let push2 = c.push-named in
-    let push3 = c.push-out in
-    omega (arith, push.auto.0, push2.auto.0, push3.auto.0)
+shape_of-queue c = omega (arith, c.push-entered.auto.queue, c.push-named.auto.queue, c.push-out.auto.queue)
 
 pub returns : goal.returns
-returns c o line = let args = c.args in
-    let in_text = c.in_text-home in
-    let no_str = c.no_str-none in
-    let push = c.push-entered in
-    let homed = c.homed in
-    let push2 = c.push-named in
-    let homed2 = c.homed-2 in
-    let push3 = c.push-out in
-    let homed3 = c.homed-3 in
-    let nowhere = c.nowhere in
-    let new = c.new in
-    let moved = c.moved in
-    autolinked-change args.m args.h args.p args.queue.now o args.n _ in_text.ensures no_str.result no_str.ensures
-    push.result push.new.0 homed.result (push.ensures o)
-    push2.result push2.new.0 homed2.result (push2.ensures o)
-    push3.result push3.new.0 homed3.result (push3.ensures o)
-    homed.ensures (homed-as homed2.result _ _ _ _ _ homed2.ensures nowhere.ensures) homed3.ensures
-    new.result new.ensures moved.result moved.ensures line
+returns c o line = autolinked-change c.args.m c.args.h c.args.p c.args.queue.now o c.args.n _ c.in_text-home.ensures c.no_str-none.result c.no_str-none.ensures
+    c.push-entered.result c.push-entered.new.queue c.homed.result (c.push-entered.ensures o)
+    c.push-named.result c.push-named.new.queue c.homed-2.result (c.push-named.ensures o)
+    c.push-out.result c.push-out.new.queue c.homed-3.result (c.push-out.ensures o)
+    c.homed.ensures (homed-as c.homed-2.result _ _ _ _ _ c.homed-2.ensures c.nowhere.ensures) c.homed-3.ensures
+    c.new.result c.new.ensures c.moved.result c.moved.ensures line

@@ -1,4 +1,5 @@
 -- `atoms::dashes` meets its contract, by the laws of `Putting`.
+use mathlib.Core.List.{[]}
 use Prim.Native.Nat.{◌-◌}
 use native.Mathlib.Omega.{arith}
 use Rattle.dash.proofs.Splits.{dashes-whole}
@@ -6,40 +7,23 @@ use Rattle.atoms.proofs.Putting.{dashes-change, dashes-events}
 use Rattle.atoms.proofs.dashes.Goals as goal
 
 pub row-out-requires : goal.row-out-requires
-row-out-requires c = let split-hyphens = c.split_hyphens-d in
-    let args = c.args in
-    let pre = c.requires in
-    let few = rw (← split-hyphens.ensures) at (dashes-whole (args.h.to - args.h.from) (omega (arith, pre))) in
-    (omega (arith, few, pre), omega (arith, few, pre))
+row-out-requires c = let few = rw (← c.split_hyphens-d.ensures) at (dashes-whole (c.args.h.to - c.args.h.from) (omega (arith, c.requires))) in
+    (omega (arith, few, c.requires), omega (arith, few, c.requires))
 -- asked: ['w_bound', 'room']
 
 pub overflow_mul-d : goal.overflow_mul-d
-overflow_mul-d c = let split-hyphens = c.split_hyphens-d in
-    let args = c.args in
-    let pre = c.requires in
-    let few = rw (← split-hyphens.ensures) at (dashes-whole (args.h.to - args.h.from) (omega (arith, pre))) in
+overflow_mul-d c = let few = rw (← c.split_hyphens-d.ensures) at (dashes-whole (c.args.h.to - c.args.h.from) (omega (arith, c.requires))) in
     omega (arith, few)
 
 pub overflow_add-h : goal.overflow_add-h
-overflow_add-h c = let split-hyphens = c.split_hyphens-d in
-    let args = c.args in
-    let pre = c.requires in
-    let few = rw (← split-hyphens.ensures) at (dashes-whole (args.h.to - args.h.from) (omega (arith, pre))) in
+overflow_add-h c = let few = rw (← c.split_hyphens-d.ensures) at (dashes-whole (c.args.h.to - c.args.h.from) (omega (arith, c.requires))) in
     omega (arith, few)
 
 pub row-requires : goal.row-requires
-row-requires c = let split-hyphens = c.split_hyphens-d in
-    let args = c.args in
-    let pre = c.requires in
-    let row = c.row-out in
-    let few = rw (← split-hyphens.ensures) at (dashes-whole (args.h.to - args.h.from) (omega (arith, pre))) in
-    let more = dashes-events args.m args.h args.p args.queue.now [] split-hyphens.result row.result row.new.1.1.1.1.1.1.0 (row.ensures []) in
-    (omega (arith, few, pre), omega (arith, few, more, pre, row.auto.1.1.1.1.1.1.0))
+row-requires c = let few = rw (← c.split_hyphens-d.ensures) at (dashes-whole (c.args.h.to - c.args.h.from) (omega (arith, c.requires))) in
+    let more = dashes-events c.args.m c.args.h c.args.p c.args.queue.now [] c.split_hyphens-d.result c.row-out.result c.row-out.new.1.1.1.1.1.1.0 (c.row-out.ensures []) in
+    (omega (arith, few, c.requires), omega (arith, few, more, c.requires, c.row-out.auto.1.1.1.1.1.1.0))
 -- asked: ['w_bound', 'room']
 
 pub returns : goal.returns
-returns c o = let split-hyphens = c.split_hyphens-d in
-    let args = c.args in
-    let row = c.row-out in
-    let row2 = c.row in
-    rw (← split-hyphens.ensures) (dashes-change args.m args.h args.p args.queue.now o split-hyphens.result row.result row.new.1.1.1.1.1.1.0 (row.ensures o) row2.result _ (row2.ensures o))
+returns c o = rw (← c.split_hyphens-d.ensures) (dashes-change c.args.m c.args.h c.args.p c.args.queue.now o c.split_hyphens-d.result c.row-out.result c.row-out.new.1.1.1.1.1.1.0 (c.row-out.ensures o) c.row.result _ (c.row.ensures o))

@@ -8,41 +8,16 @@ use Rattle.atoms.proofs.Noting.{dollars-none, dollars-no, dollars-one, dollars-t
 use Rattle.atoms.proofs.dollars_of.Goals as goal
 
 pub returns-then-h : goal.returns-then-h
-returns-then-h c = let args = c.args in
-    let if1 = c.if-h in
-    dollars-none (viewed args.m args.line.now) args.h.from args.h.to if1.true
+returns-then-h c = dollars-none (viewed c.args.m c.args.line.now) c.args.h.from c.args.h.to c.if-h.true
 
 pub returns-then-not-dollar : goal.returns-then-not-dollar
-returns-then-not-dollar c = let args = c.args in
-    let if1 = c.if-h in
-    let dollar = c.dollar in
-    let if2 = c.if-not-dollar in
-    dollars-no (viewed args.m args.line.now) args.h.from args.h.to (omega (arith, if1.false)) (sym dollar.ensures ∙ not-true _ if2.true)
+returns-then-not-dollar c = dollars-no (viewed c.args.m c.args.line.now) c.args.h.from c.args.h.to (omega (arith, c.if-h.false)) (sym c.dollar.ensures ∙ not-true _ c.if-not-dollar.true-raw)
 
 pub returns-then-h-eq1 : goal.returns-then-h-eq1
-returns-then-h-eq1 c = let args = c.args in
-    let if1 = c.if-h in
-    let dollar = c.dollar in
-    let if2 = c.if-not-dollar in
-    let if3 = c.if-h-eq1 in
-    dollars-one (viewed args.m args.line.now) args.h.from args.h.to (omega (arith, if1.false)) (sym dollar.ensures ∙ not-false _ if2.false) if3.true
+returns-then-h-eq1 c = dollars-one (viewed c.args.m c.args.line.now) c.args.h.from c.args.h.to (omega (arith, c.if-h.false)) (sym c.dollar.ensures ∙ not-false _ c.if-not-dollar.false-raw) c.if-h-eq1.true
 
 pub returns-then-dollar : goal.returns-then-dollar
-returns-then-dollar c = let args = c.args in
-    let if1 = c.if-h in
-    let dollar = c.dollar in
-    let if2 = c.if-not-dollar in
-    let if3 = c.if-h-eq1 in
-    let dollar2 = c.dollar-2 in
-    let if4 = c.if-dollar in
-    dollars-two (viewed args.m args.line.now) args.h.from args.h.to (omega (arith, if1.false)) (sym dollar.ensures ∙ not-false _ if2.false) if3.false true (sym dollar2.ensures ∙ if4.true)
+returns-then-dollar c = dollars-two (viewed c.args.m c.args.line.now) c.args.h.from c.args.h.to (omega (arith, c.if-h.false)) (sym c.dollar.ensures ∙ not-false _ c.if-not-dollar.false-raw) c.if-h-eq1.false true (sym c.dollar-2.ensures ∙ c.if-dollar.true)
 
 pub returns : goal.returns
-returns c = let args = c.args in
-    let if1 = c.if-h in
-    let dollar = c.dollar in
-    let if2 = c.if-not-dollar in
-    let if3 = c.if-h-eq1 in
-    let dollar2 = c.dollar-2 in
-    let if4 = c.if-dollar in
-    dollars-two (viewed args.m args.line.now) args.h.from args.h.to (omega (arith, if1.false)) (sym dollar.ensures ∙ not-false _ if2.false) if3.false false (sym dollar2.ensures ∙ if4.false)
+returns c = dollars-two (viewed c.args.m c.args.line.now) c.args.h.from c.args.h.to (omega (arith, c.if-h.false)) (sym c.dollar.ensures ∙ not-false _ c.if-not-dollar.false-raw) c.if-h-eq1.false false (sym c.dollar-2.ensures ∙ c.if-dollar.false)

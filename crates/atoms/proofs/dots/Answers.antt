@@ -1,4 +1,5 @@
 -- `atoms::dots` meets its contract, by the laws of `Putting`.
+use mathlib.Core.List.{[]}
 use Prim.Native.Nat.{◌-◌}
 use mathlib.Core.Path.{ap}
 use native.Mathlib.Omega.{arith}
@@ -7,39 +8,23 @@ use Rattle.atoms.proofs.Putting.{periods-few, dots-change, dots-events}
 use Rattle.atoms.proofs.dots.Goals as goal
 
 pub row-out-requires : goal.row-out-requires
-row-out-requires c = let args = c.args in
-    let split-periods = c.split_periods-d in
-    let pre = c.requires in
-    let few = periods-few (args.h.to - args.h.from) split-periods.result split-periods.ensures in
-    (omega (arith, few, pre), omega (arith, few, pre))
+row-out-requires c = let few = periods-few (c.args.h.to - c.args.h.from) c.split_periods-d.result c.split_periods-d.ensures in
+    (omega (arith, few, c.requires), omega (arith, few, c.requires))
 -- asked: ['w_bound', 'room']
 
 pub overflow_mul-rest : goal.overflow_mul-rest
-overflow_mul-rest c = let args = c.args in
-    let split-periods = c.split_periods-d in
-    let few = periods-few (args.h.to - args.h.from) split-periods.result split-periods.ensures in
+overflow_mul-rest c = let few = periods-few (c.args.h.to - c.args.h.from) c.split_periods-d.result c.split_periods-d.ensures in
     omega (arith, few)
 
 pub overflow_add-rest : goal.overflow_add-rest
-overflow_add-rest c = let args = c.args in
-    let split-periods = c.split_periods-d in
-    let few = periods-few (args.h.to - args.h.from) split-periods.result split-periods.ensures in
+overflow_add-rest c = let few = periods-few (c.args.h.to - c.args.h.from) c.split_periods-d.result c.split_periods-d.ensures in
     omega (arith, few)
 
 pub put-requires : goal.put-requires
-put-requires c = let args = c.args in
-    let split-periods = c.split_periods-d in
-    let pre = c.requires in
-    let row = c.row-out in
-    let few = periods-few (args.h.to - args.h.from) split-periods.result split-periods.ensures in
-    let more = dots-events args.m args.h args.p args.queue.now [] args.line.now pre.0.ordered split-periods.result.ellipses (ap (λ (d : Dots). d.ellipses) split-periods.ensures) row.result row.new.1.1.1.1.1.1.0 (row.ensures []) in
-    (record { ordered = omega (arith, few, pre); within = pre.0.within; small = pre.0.small }, omega (arith, few, more, pre, row.auto.1.1.1.1.1.1.0))
+put-requires c = let few = periods-few (c.args.h.to - c.args.h.from) c.split_periods-d.result c.split_periods-d.ensures in
+    let more = dots-events c.args.m c.args.h c.args.p c.args.queue.now [] c.args.line.now c.requires.fits.ordered c.split_periods-d.result.ellipses (ap (λ (d : Dots). d.ellipses) c.split_periods-d.ensures) c.row-out.result c.row-out.new.1.1.1.1.1.1.0 (c.row-out.ensures []) in
+    (record { ordered = omega (arith, few, c.requires); within = c.requires.fits.within; small = c.requires.fits.small }, omega (arith, few, more, c.requires, c.row-out.auto.1.1.1.1.1.1.0))
 -- asked: ['fits', 'room']
 
 pub returns : goal.returns
-returns c o = let args = c.args in
-    let pre = c.requires in
-    let split-periods = c.split_periods-d in
-    let row = c.row-out in
-    let put = c.put in
-    dots-change args.m args.h args.p args.queue.now o args.line.now pre.0.ordered split-periods.result.ellipses (ap (λ (d : Dots). d.ellipses) split-periods.ensures) row.result row.new.1.1.1.1.1.1.0 (row.ensures o) put.result _ (put.ensures o)
+returns c o = dots-change c.args.m c.args.h c.args.p c.args.queue.now o c.args.line.now c.requires.fits.ordered c.split_periods-d.result.ellipses (ap (λ (d : Dots). d.ellipses) c.split_periods-d.ensures) c.row-out.result c.row-out.new.1.1.1.1.1.1.0 (c.row-out.ensures o) c.put.result _ (c.put.ensures o)

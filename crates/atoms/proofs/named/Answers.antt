@@ -4,16 +4,8 @@ use Rattle.atoms.proofs.Putting.{named-change}
 use Rattle.atoms.proofs.named.Goals as goal
 
 pub overflow_add-end-3 : goal.overflow_add-end-3
-overflow_add-end-3 c = let pre = c.requires in
-    omega (arith, pre)
+overflow_add-end-3 c = omega (arith, c.requires)
 
 pub returns : goal.returns
-returns c o line = let args = c.args in
-    let push = c.push-out in
-    let homed = c.homed in
-    let no_str = c.no_str in
-    let in_text = c.in_text in
-    let new = c.new in
-    let moved = c.moved in
-    named-change args.m args.h args.p args.queue.now o args.kind args.n push.result push.new.0 homed.result _ no_str.result (push.ensures o) in_text.ensures homed.ensures no_str.ensures
-    new.result new.ensures moved.result moved.ensures line
+returns c o line = named-change c.args.m c.args.h c.args.p c.args.queue.now o c.args.kind c.args.n c.push-out.result c.push-out.new.queue c.homed.result _ c.no_str.result (c.push-out.ensures o) c.in_text.ensures c.homed.ensures c.no_str.ensures
+    c.new.result c.new.ensures c.moved.result c.moved.ensures line

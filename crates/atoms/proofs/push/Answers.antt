@@ -3,6 +3,4 @@ use Rattle.atoms.proofs.Putting.{pushes}
 use Rattle.atoms.proofs.push.Goals as goal
 
 pub returns : goal.returns
-returns c o = let a = c.args in
-    let w = c.push in
-    pushes a.p a.queue.now w.new.0 o a.e a.last w.ensures
+returns c o = pushes c.args.p c.args.queue.now c.push.new.queue o c.args.e c.args.last c.push.ensures

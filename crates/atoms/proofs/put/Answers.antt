@@ -3,10 +3,5 @@ use Rattle.atoms.proofs.Putting.{pushed-as, homed-as}
 use Rattle.atoms.proofs.put.Goals as goal
 
 pub returns : goal.returns
-returns c o = let args = c.args in
-    let push = c.push in
-    let homed = c.homed in
-    let last_of = c.last_of-last in
-    let nowhere = c.nowhere in
-    pushed-as args.p args.queue.now push.result push.new.0 homed.result last_of.result push.ensures _
-    (homed-as homed.result _ _ _ _ _ homed.ensures nowhere.ensures) _ last_of.ensures o
+returns c o = pushed-as c.args.p c.args.queue.now c.push.result c.push.new.queue c.homed.result c.last_of-last.result c.push.ensures _
+    (homed-as c.homed.result _ _ _ _ _ c.homed.ensures c.nowhere.ensures) _ c.last_of-last.ensures o

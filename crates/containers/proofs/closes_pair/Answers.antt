@@ -5,17 +5,8 @@ use Rattle.containers.proofs.Closing.{pair-change}
 use Rattle.containers.proofs.closes_pair.Goals as goal
 
 pub push-requires : goal.push-requires
-push-requires c = let pre = c.requires in
-    let set-kind = c.set_kind in
-    omega (arith, pre, set-kind.auto.0)
+push-requires c = omega (arith, c.requires, c.set_kind.auto.queue)
 
 pub returns : goal.returns
-returns c os line = let args = c.args in
-    let set-kind = c.set_kind in
-    let nowhere = c.nowhere in
-    let homed = c.homed-e in
-    let nowhere2 = c.nowhere-2 in
-    let no_str = c.no_str in
-    let push = c.push in
-    pair-change args.m line args.h args.pair.first args.pair.second args.o args.p args.queue.now os set-kind.new.0 _ nowhere.ensures set-kind.ensures
-    homed.result (homed-as homed.result _ _ _ _ _ homed.ensures nowhere2.ensures) no_str.result no_str.ensures push.result push.new.0 (push.ensures os)
+returns c os line = pair-change c.args.m line c.args.h c.args.pair.first c.args.pair.second c.args.o c.args.p c.args.queue.now os c.set_kind.new.queue _ c.nowhere.ensures c.set_kind.ensures
+    c.homed-e.result (homed-as c.homed-e.result _ _ _ _ _ c.homed-e.ensures c.nowhere-2.ensures) c.no_str.result c.no_str.ensures c.push.result c.push.new.queue (c.push.ensures os)

@@ -12,68 +12,36 @@ use Rattle.containers.proofs.Closing.{span-events, span_none, span-alone, span-a
 use Rattle.containers.proofs.closes_span.Goals as goal
 
 pub put-out-requires : goal.put-out-requires
-put-out-requires c = let pre = c.requires in
-    let moved = c.moved in
-    (record { ordered = omega (arith, pre.0.long); within = pre.0.within; small = pre.0.small }, omega (arith, pre.0.room, pre.0.long, pre.0.within, ap (λ (x : Parser). x.events) moved.ensures))
--- asked: ['fits', 'room']
+put-out-requires c = record { fits = record { ordered = omega (arith, c.requires.ready.long); within = c.requires.ready.within; small = c.requires.ready.small }; room = omega (arith, c.requires.ready.room, c.requires.ready.long, c.requires.ready.within, ap (λ (x : Parser). x.events) c.moved.ensures) }
 
 pub returns-in_default : goal.returns-in_default
-returns-in_default c = let args = c.args in
-    let peek = c.peek_token-ahead in
-    let moved = c.moved in
-    let put = c.put-out in
-    let enum_told = c.enum_told-1 in
-    span_none args.m args.line.now args.h args.image args.o args.p args.queue.now args.openers.now peek.result peek.ensures moved.result moved.ensures put.result put.new.1.1.1.1.1.0 put.ensures enum_told.given.1
+returns-in_default c = span_none c.args.m c.args.line.now c.args.h c.args.image c.args.o c.args.p c.args.queue.now c.args.openers.now c.peek_token-ahead.result c.peek_token-ahead.ensures c.moved.result c.moved.ensures c.put-out.result c.put-out.new.1.1.1.1.1.0 c.put-out.ensures c.in_default.is
 
 pub returns-in_default-takes : goal.returns-in_default-takes
-returns-in_default-takes c = let args = c.args in
-    let peek = c.peek_token-ahead in
-    let moved = c.moved in
-    let put = c.put-out in
-    let next = c.next-1 in
-    let takes = c.takes in
-    let role_of = c.role_of in
-    let enum-told2 = c.enum_told-in_default-takes-1 in
-    span-alone args.m args.line.now args.h args.image args.o args.p args.queue.now args.openers.now peek.result peek.ensures moved.result moved.ensures put.result put.new.1.1.1.1.1.0 put.ensures _ next.given.1 _
-    (takes.ensures ∙ ap (λ (x : Role). taken_as (Takes-of x)) role_of.ensures) enum-told2.given.1
+returns-in_default-takes c = span-alone c.args.m c.args.line.now c.args.h c.args.image c.args.o c.args.p c.args.queue.now c.args.openers.now c.peek_token-ahead.result c.peek_token-ahead.ensures c.moved.result c.moved.ensures c.put-out.result c.put-out.new.1.1.1.1.1.0 c.put-out.ensures _ c.in-Some.is _
+    (c.takes.ensures ∙ ap (λ (x : Role). taken_as (Takes-of x)) c.role_of.ensures) c.in_default-takes.is
 
 pub overflow_add-bracket : goal.overflow_add-bracket
-overflow_add-bracket c = let args = c.args in
-    let peek = c.peek_token-ahead in
-    let moved = c.moved in
-    let put = c.put-out in
-    let next = c.next-1 in
-    let takes = c.takes in
-    let role_of = c.role_of in
-    let pre = c.requires in
-    let w = span-within args.m args.line.now args.h args.image args.o args.p args.queue.now args.openers.now peek.result peek.ensures moved.result moved.ensures put.result put.new.1.1.1.1.1.0 put.ensures _ next.given.1 _
-    (takes.ensures ∙ ap (λ (x : Role). taken_as (Takes-of x)) role_of.ensures) pre.0.sound pre.0.place in
-    omega (arith, w.1, pre.0.small)
+overflow_add-bracket c = let w = span-within c.args.m c.args.line.now c.args.h c.args.image c.args.o c.args.p c.args.queue.now c.args.openers.now c.peek_token-ahead.result c.peek_token-ahead.ensures c.moved.result c.moved.ensures c.put-out.result c.put-out.new.1.1.1.1.1.0 c.put-out.ensures _ c.in-Some.is _
+    (c.takes.ensures ∙ ap (λ (x : Role). taken_as (Takes-of x)) c.role_of.ensures) c.requires.ready.sound c.requires.ready.place in
+    omega (arith, w.1, c.requires.ready.small)
 
 pub takes_along-requires : goal.takes_along-requires
-takes_along-requires c = let args = c.args in
-    let peek = c.peek_token-ahead in
-    let moved = c.moved in
-    let put = c.put-out in
-    let next = c.next-1 in
-    let takes = c.takes in
-    let role_of = c.role_of in
-    let pre = c.requires in
-    let w = span-within args.m args.line.now args.h args.image args.o args.p args.queue.now args.openers.now peek.result peek.ensures moved.result moved.ensures put.result put.new.1.1.1.1.1.0 put.ensures _ next.given.1 _
-    (takes.ensures ∙ ap (λ (x : Role). taken_as (Takes-of x)) role_of.ensures) pre.0.sound pre.0.place in
-    let n = span-events args.m args.line.now args.h args.image args.o args.p args.queue.now args.openers.now peek.result peek.ensures moved.result moved.ensures put.result put.new.1.1.1.1.1.0 put.ensures in
-    let k = changed-openers moved.result args.queue.now args.openers.now put.result put.new.1.1.1.1.1.0 args.openers.now _ (put.ensures args.openers.now) ∙ stack-length opener_at moved.result.openers args.openers.now ∙ ap (λ (x : Parser). x.openers) moved.ensures in
-    let r = pre.0 in (
-      record { ordered = omega arith; within = w.1; small = r.small },
+takes_along-requires c = let w = span-within c.args.m c.args.line.now c.args.h c.args.image c.args.o c.args.p c.args.queue.now c.args.openers.now c.peek_token-ahead.result c.peek_token-ahead.ensures c.moved.result c.moved.ensures c.put-out.result c.put-out.new.1.1.1.1.1.0 c.put-out.ensures _ c.in-Some.is _
+    (c.takes.ensures ∙ ap (λ (x : Role). taken_as (Takes-of x)) c.role_of.ensures) c.requires.ready.sound c.requires.ready.place in
+    let n = span-events c.args.m c.args.line.now c.args.h c.args.image c.args.o c.args.p c.args.queue.now c.args.openers.now c.peek_token-ahead.result c.peek_token-ahead.ensures c.moved.result c.moved.ensures c.put-out.result c.put-out.new.1.1.1.1.1.0 c.put-out.ensures in
+    let k = changed-openers c.moved.result c.args.queue.now c.args.openers.now c.put-out.result c.put-out.new.1.1.1.1.1.0 c.args.openers.now _ (c.put-out.ensures c.args.openers.now) ∙ stack-length opener_at c.moved.result.openers c.args.openers.now ∙ ap (λ (x : Parser). x.openers) c.moved.ensures in
+    (
+      record { ordered = omega arith; within = w.1; small = c.requires.ready.small },
       (
-        omega (arith, w, n, r.room, r.long, put.auto.1.1.1.1.1.0),
+        omega (arith, w, n, c.requires.ready.room, c.requires.ready.long, c.put-out.auto.1.1.1.1.1.0),
         (
-          omega (arith, n, r.few, r.long, r.within),
+          omega (arith, n, c.requires.ready.few, c.requires.ready.long, c.requires.ready.within),
           (
-            omega (arith, pre.1.0, r.few, r.long, r.within),
+            omega (arith, c.requires.event_lt_events, c.requires.ready.few, c.requires.ready.long, c.requires.ready.within),
             (
-              omega (arith, k, r.shallow, r.long, r.within),
-              (omega (arith, k, r.stack, r.long, r.within), pre.1.1),
+              omega (arith, k, c.requires.ready.shallow, c.requires.ready.long, c.requires.ready.within),
+              (omega (arith, k, c.requires.ready.stack, c.requires.ready.long, c.requires.ready.within), c.requires.ruled),
             ),
           ),
         ),
@@ -82,20 +50,8 @@ takes_along-requires c = let args = c.args in
 -- asked: ['fits', 'room', 'events_bound', 'span_bound', 'openers_bound', 'opener_numbers_in_bounds', 'ruled']
 
 pub shape_of-queue : goal.shape_of-queue
-shape_of-queue c = let put = c.put-out in
-    let takes_along = c.takes_along in
-    omega (arith, put.auto.1.1.1.1.1.0, takes_along.auto.1.1.1.1.1.1.0)
+shape_of-queue c = omega (arith, c.put-out.auto.1.1.1.1.1.0, c.takes_along.auto.1.1.1.1.1.1.0)
 
 pub returns : goal.returns
-returns c = let args = c.args in
-    let peek = c.peek_token-ahead in
-    let moved = c.moved in
-    let put = c.put-out in
-    let next = c.next-1 in
-    let takes = c.takes in
-    let role_of = c.role_of in
-    let inline = c.inline-1 in
-    let link_sort = c.link_sort in
-    let takes_along = c.takes_along in
-    span-along args.m args.line.now args.h args.image args.o args.p args.queue.now args.openers.now peek.result peek.ensures moved.result moved.ensures put.result put.new.1.1.1.1.1.0 put.ensures _ next.given.1 _
-    (takes.ensures ∙ ap (λ (x : Role). taken_as (Takes-of x)) role_of.ensures) _ inline.given.1 link_sort.result link_sort.ensures takes_along.result takes_along.new.1.1.1.1.1.1.0 takes_along.new.1.1.1.1.1.1.1.0 takes_along.ensures
+returns c = span-along c.args.m c.args.line.now c.args.h c.args.image c.args.o c.args.p c.args.queue.now c.args.openers.now c.peek_token-ahead.result c.peek_token-ahead.ensures c.moved.result c.moved.ensures c.put-out.result c.put-out.new.1.1.1.1.1.0 c.put-out.ensures _ c.in-Some.is _
+    (c.takes.ensures ∙ ap (λ (x : Role). taken_as (Takes-of x)) c.role_of.ensures) _ c.in-Along.is c.link_sort.result c.link_sort.ensures c.takes_along.result c.takes_along.new.1.1.1.1.1.1.0 c.takes_along.new.1.1.1.1.1.1.1.0 c.takes_along.ensures

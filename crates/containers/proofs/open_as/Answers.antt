@@ -3,9 +3,5 @@ use Rattle.containers.proofs.Trying.{open-change}
 use Rattle.containers.proofs.open_as.Goals as goal
 
 pub returns : goal.returns
-returns c = let args = c.args in
-    let push-opener = c.push_opener in
-    let unclosed = c.unclosed in
-    let put = c.put in
-    open-change args.m args.line.now args.h args.sort args.p args.queue.now args.openers.now push-opener.new.0 push-opener.ensures
-    unclosed.result unclosed.ensures put.result put.new.1.1.1.1.1.0 (put.ensures push-opener.new.0)
+returns c = open-change c.args.m c.args.line.now c.args.h c.args.sort c.args.p c.args.queue.now c.args.openers.now c.push_opener.new.openers c.push_opener.ensures
+    c.unclosed.result c.unclosed.ensures c.put.result c.put.new.1.1.1.1.1.0 (c.put.ensures c.push_opener.new.openers)

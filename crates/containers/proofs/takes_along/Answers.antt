@@ -6,19 +6,11 @@ use Rattle.containers.proofs.Trying.{along-change}
 use Rattle.containers.proofs.takes_along.Goals as goal
 
 pub overflow_add-out : goal.overflow_add-out
-overflow_add-out c = let pre = c.requires in omega (arith, pre.1.1.1.1.1.0)
+overflow_add-out c = omega (arith, c.requires.opener_numbers_in_bounds)
 
 pub put-requires : goal.put-requires
-put-requires c = let pre = c.requires in
-    let moved = c.moved-out in
-    (pre.0, omega (arith, pre, ap (λ (x : Parser). x.events) moved.ensures))
--- asked: ['fits', 'room']
+put-requires c = record { fits = c.requires.fits; room = omega (arith, c.requires, ap (λ (x : Parser). x.events) c.moved-out.ensures) }
 
 pub returns : goal.returns
-returns c = let args = c.args in
-    let push-opener = c.push_opener in
-    let moved = c.moved-out in
-    let put = c.put in
-    let skip = c.skip-behind in
-    along-change args.m args.line.now args.h args.sort args.span args.p args.queue.now args.openers.now push-opener.new.0 push-opener.ensures
-    _ moved.result moved.ensures put.result put.new.1.1.1.1.1.0 (put.ensures push-opener.new.0) _ (sym skip.ensures)
+returns c = along-change c.args.m c.args.line.now c.args.h c.args.sort c.args.span c.args.p c.args.queue.now c.args.openers.now c.push_opener.new.openers c.push_opener.ensures
+    _ c.moved-out.result c.moved-out.ensures c.put.result c.put.new.1.1.1.1.1.0 (c.put.ensures c.push_opener.new.openers) _ (sym c.skip-behind.ensures)

@@ -1,4 +1,5 @@
 -- `containers::tried` meets its contract, by the laws of `Sought`.
+use mathlib.Core.List.{[]}
 use mathlib.Core.Path.{sym, ◌∙◌}
 use native.Mathlib.Omega.{arith}
 use borrow.Author.Rules.{rules}
@@ -7,39 +8,21 @@ use Rattle.containers.proofs.Sought.{sought-none, sought-within, sought-names, s
 use Rattle.containers.proofs.tried.Goals as goal
 
 pub returns-in_default : goal.returns-in_default
-returns-in_default c q l = let args = c.args in
-    let seek = c.seek in
-    let enum_told = c.enum_told-1 in
-    sought-none (viewed args.m args.line.now) (here args.h args.p) (stands args.p q args.openers.now l) args.openers.now args.closes args.p.openers seek.result seek.ensures enum_told.given.1
+returns-in_default c q l = sought-none (viewed c.args.m c.args.line.now) (here c.args.h c.args.p) (stands c.args.p q c.args.openers.now l) c.args.openers.now c.args.closes c.args.p.openers c.seek.result c.seek.ensures c.in_default.is
 
 pub opener_at-requires : goal.opener_at-requires
-opener_at-requires c = let args = c.args in
-    let seek = c.seek in
-    let i = c.i-1 in
-    let pre = c.requires in
-    let q = [] in
+opener_at-requires c = let q = [] in
     let l = [] in
-    omega (arith, sought-within (viewed args.m args.line.now) (here args.h args.p) (stands args.p q args.openers.now l) args.openers.now args.closes args.p.openers seek.result seek.ensures _ i.given.1, pre.1.0)
+    omega (arith, sought-within (viewed c.args.m c.args.line.now) (here c.args.h c.args.p) (stands c.args.p q c.args.openers.now l) c.args.openers.now c.args.closes c.args.p.openers c.seek.result c.seek.ensures _ c.in-At.is, c.requires.opener_numbers_in_bounds)
 
 pub may_close-requires : goal.may_close-requires
-may_close-requires c = let pre = c.requires in
-    let args = c.args in
-    let seek = c.seek in
-    let i = c.i-1 in
-    let opener-at = c.opener_at in
-    let q = [] in
+may_close-requires c = let q = [] in
     let l = [] in
-    (pre.0, (sought-names (viewed args.m args.line.now) (here args.h args.p) (stands args.p q args.openers.now l) args.openers.now args.closes args.p.openers seek.result seek.ensures _ i.given.1 opener-at.result opener-at.ensures args.p.events pre.1.1.0, pre.1.1.1))
+    (c.requires.from_in_bounds, (sought-names (viewed c.args.m c.args.line.now) (here c.args.h c.args.p) (stands c.args.p q c.args.openers.now l) c.args.openers.now c.args.closes c.args.p.openers c.seek.result c.seek.ensures _ c.in-At.is c.opener_at.result c.opener_at.ensures c.args.p.events c.requires.named, c.requires.ruled))
 -- asked: ['from_in_bounds', 'event_lt_events', 'ruled']
 
 pub returns-then-may_close : goal.returns-then-may_close
-returns-then-may_close c q l = let args = c.args in
-    let seek = c.seek in
-    let i = c.i-1 in
-    let opener-at = c.opener_at in
-    let may_close = c.may_close in
-    let if1 = c.if-may_close in
-    sought-closes (viewed args.m args.line.now) (here args.h args.p) (stands args.p q args.openers.now l) args.openers.now args.closes args.p.openers seek.result seek.ensures _ i.given.1 opener-at.result opener-at.ensures (sym (may_close.ensures q args.openers.now l) ∙ if1.true)
+returns-then-may_close c q l = sought-closes (viewed c.args.m c.args.line.now) (here c.args.h c.args.p) (stands c.args.p q c.args.openers.now l) c.args.openers.now c.args.closes c.args.p.openers c.seek.result c.seek.ensures _ c.in-At.is c.opener_at.result c.opener_at.ensures (sym (c.may_close.ensures q c.args.openers.now l) ∙ c.if-may_close.true)
 
 pub returns : goal.returns
 returns c = search (rules, tried-barred)

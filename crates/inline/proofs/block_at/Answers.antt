@@ -9,85 +9,47 @@ use Rattle.inline.proofs.Asking.{asked-first, asked-decided, asked-all, asked-ne
 use Rattle.inline.proofs.block_at.Goals as goal
 
 pub bounds-ends-i : goal.bounds-ends-i
-bounds-ends-i c = let pre = c.requires in
-    let args = c.args in
-    omega (arith, pre.1.0.some, lines-length args.starts.now args.ends.now pre.0, pre.0)
+bounds-ends-i c = omega (arith, c.requires.within.some, lines-length c.args.starts.now c.args.ends.now c.requires.starts_len, c.requires.starts_len)
 
 pub validate-v-requires : goal.validate-v-requires
-validate-v-requires c = let args = c.args in
-    let pre = c.requires in
-    let is = lines_at args.starts.now args.ends.now args.i (omega (arith, pre.1.0.some, lines-length args.starts.now args.ends.now pre.0)) (omega (arith, pre.1.0.some, lines-length args.starts.now args.ends.now pre.0, pre.0)) in
-    (omega (arith, pre.1.0.high, ap (λ z. z.end) is), (omega (arith, line-within args.text.now (lines_of args.starts.now args.ends.now) args.i args.at pre.1.0 args.i pre.1.0.some, ap (λ z. z.end) is), pre.1.1))
+validate-v-requires c = let is = lines_at c.args.starts.now c.args.ends.now c.args.i (omega (arith, c.requires.within.some, lines-length c.args.starts.now c.args.ends.now c.requires.starts_len)) (omega (arith, c.requires.within.some, lines-length c.args.starts.now c.args.ends.now c.requires.starts_len, c.requires.starts_len)) in
+    (omega (arith, c.requires.within.high, ap (λ z. z.end) is), (omega (arith, line-within c.args.text.now (lines_of c.args.starts.now c.args.ends.now) c.args.i c.args.at c.requires.within c.args.i c.requires.within.some, ap (λ z. z.end) is), c.requires.ruled))
 -- asked: ['start_le_end', 'end_in_bounds', 'ruled']
 
 pub overflow_add-k : goal.overflow_add-k
-overflow_add-k c = let pre = c.requires in
-    omega (arith, pre.1.0.some, pre.1.0.listed)
+overflow_add-k c = omega (arith, c.requires.within.some, c.requires.within.listed)
 
 pub loop-k-init : goal.loop-k-init
-loop-k-init c = let args = c.args in
-    let pre = c.requires in
-    let new = c.new in
-    let validate = c.validate-v in
-    asked-first args.text.now (lines_of args.starts.now args.ends.now) args.i args.at pre.1.0 new.result new.ensures _ (ap (λ z. z.end) (lines_at args.starts.now args.ends.now args.i (omega (arith, pre.1.0.some, lines-length args.starts.now args.ends.now pre.0)) (omega (arith, pre.1.0.some, lines-length args.starts.now args.ends.now pre.0, pre.0)))) validate.result validate.ensures
+loop-k-init c = asked-first c.args.text.now (lines_of c.args.starts.now c.args.ends.now) c.args.i c.args.at c.requires.within c.new.result c.new.ensures _ (ap (λ z. z.end) (lines_at c.args.starts.now c.args.ends.now c.args.i (omega (arith, c.requires.within.some, lines-length c.args.starts.now c.args.ends.now c.requires.starts_len)) (omega (arith, c.requires.within.some, lines-length c.args.starts.now c.args.ends.now c.requires.starts_len, c.requires.starts_len)))) c.validate-v.result c.validate-v.ensures
 
 pub returns-then-decided : goal.returns-then-decided
-returns-then-decided c = let done = c.done in
-    let args = c.args in
-    let pre = c.requires in
-    let loop = c.loop-k in
-    let decided = c.decided in
-    let if1 = c.if-decided in
-    done.ensures ∙ asked-decided args.text.now (lines_of args.starts.now args.ends.now) args.i args.at pre.1.0 loop.v loop.k loop.invariant (sym decided.ensures ∙ if1.true)
+returns-then-decided c = c.done.ensures ∙ asked-decided c.args.text.now (lines_of c.args.starts.now c.args.ends.now) c.args.i c.args.at c.requires.within c.loop-k.v c.loop-k.k c.loop-k.invariant (sym c.decided.ensures ∙ c.if-decided.true)
 
 pub bounds-starts-k : goal.bounds-starts-k
-bounds-starts-k c = let loop-test = c.loop-k-test in
-    let args = c.args in
-    let pre = c.requires in
-    omega (arith, loop-test.true, pre.0, pre.1.0.some, lines-length args.starts.now args.ends.now pre.0)
+bounds-starts-k c = omega (arith, c.loop-k-test.true, c.requires.starts_len, c.requires.within.some, lines-length c.args.starts.now c.args.ends.now c.requires.starts_len)
 
 pub bounds-ends-k : goal.bounds-ends-k
-bounds-ends-k c = let loop-test = c.loop-k-test in
-    let pre = c.requires in
-    omega (arith, loop-test.true, pre.0)
+bounds-ends-k c = omega (arith, c.loop-k-test.true, c.requires.starts_len)
 
 pub validate-v-requires-in-loop-k : goal.validate-v-requires-in-loop-k
-validate-v-requires-in-loop-k c = let loop-test = c.loop-k-test in
-    let args = c.args in
-    let pre = c.requires in
-    let loop = c.loop-k in
-    let all = lines_of args.starts.now args.ends.now in
-    let first : args.i < length args.starts.now = omega (arith, pre.1.0.some, lines-length args.starts.now args.ends.now pre.0) in
-    let some : loop.k < length all = omega (arith, loop-test.true, lines-length args.starts.now args.ends.now pre.0) in
-    let is = lines_at args.starts.now args.ends.now loop.k loop-test.true (omega (arith, loop-test.true, pre.0)) in
-    let here = lines_at args.starts.now args.ends.now args.i first (omega (arith, first, pre.0)) in
-    let ordered = line-ordered args.text.now all args.i args.at pre.1.0 loop.k some in
-    let later = line-later args.text.now all args.i args.at pre.1.0 loop.k loop.invariant.past some in
-    (omega (arith, ordered, later, ap (λ z. z.end) here, ap (λ z. z.start) is, ap (λ z. z.end) is), (omega (arith, line-within args.text.now all args.i args.at pre.1.0 loop.k some, ap (λ z. z.end) is), pre.1.1))
+validate-v-requires-in-loop-k c = let all = lines_of c.args.starts.now c.args.ends.now in
+    let first : c.args.i < length c.args.starts.now = omega (arith, c.requires.within.some, lines-length c.args.starts.now c.args.ends.now c.requires.starts_len) in
+    let some : c.loop-k.k < length all = omega (arith, c.loop-k-test.true, lines-length c.args.starts.now c.args.ends.now c.requires.starts_len) in
+    let is = lines_at c.args.starts.now c.args.ends.now c.loop-k.k c.loop-k-test.true (omega (arith, c.loop-k-test.true, c.requires.starts_len)) in
+    let here = lines_at c.args.starts.now c.args.ends.now c.args.i first (omega (arith, first, c.requires.starts_len)) in
+    let ordered = line-ordered c.args.text.now all c.args.i c.args.at c.requires.within c.loop-k.k some in
+    let later = line-later c.args.text.now all c.args.i c.args.at c.requires.within c.loop-k.k c.loop-k.invariant.past some in
+    (omega (arith, ordered, later, ap (λ z. z.end) here, ap (λ z. z.start) is, ap (λ z. z.end) is), (omega (arith, line-within c.args.text.now all c.args.i c.args.at c.requires.within c.loop-k.k some, ap (λ z. z.end) is), c.requires.ruled))
 -- asked: ['start_le_end', 'end_in_bounds', 'ruled']
 
 pub overflow_add-k-in-loop-k : goal.overflow_add-k-in-loop-k
-overflow_add-k-in-loop-k c = let loop-test = c.loop-k-test in
-    let pre = c.requires in
-    let args = c.args in
-    omega (arith, loop-test.true, pre.1.0.listed, lines-length args.starts.now args.ends.now pre.0)
+overflow_add-k-in-loop-k c = omega (arith, c.loop-k-test.true, c.requires.within.listed, lines-length c.args.starts.now c.args.ends.now c.requires.starts_len)
 
 pub loop-k-smaller : goal.loop-k-smaller
-loop-k-smaller c = let loop-test = c.loop-k-test in
-    omega (arith, loop-test.true)
+loop-k-smaller c = omega (arith, c.loop-k-test.true)
 
 pub loop-k-preserved : goal.loop-k-preserved
-loop-k-preserved c = let args = c.args in
-    let pre = c.requires in
-    let loop = c.loop-k in
-    let loop-test = c.loop-k-test in
-    let validate2 = c.validate-v-in-loop-k in
-    asked-next args.text.now (lines_of args.starts.now args.ends.now) args.i args.at pre.1.0 loop.v loop.k loop.invariant (omega (arith, loop-test.true, lines-length args.starts.now args.ends.now pre.0)) _ (lines_at args.starts.now args.ends.now loop.k loop-test.true (omega (arith, loop-test.true, pre.0))) validate2.result validate2.ensures
+loop-k-preserved c = asked-next c.args.text.now (lines_of c.args.starts.now c.args.ends.now) c.args.i c.args.at c.requires.within c.loop-k.v c.loop-k.k c.loop-k.invariant (omega (arith, c.loop-k-test.true, lines-length c.args.starts.now c.args.ends.now c.requires.starts_len)) _ (lines_at c.args.starts.now c.args.ends.now c.loop-k.k c.loop-k-test.true (omega (arith, c.loop-k-test.true, c.requires.starts_len))) c.validate-v-in-loop-k.result c.validate-v-in-loop-k.ensures
 
 pub returns : goal.returns
-returns c = let done2 = c.done-2 in
-    let args = c.args in
-    let pre = c.requires in
-    let loop = c.loop-k in
-    let loop-test = c.loop-k-test in
-    done2.ensures ∙ asked-all args.text.now (lines_of args.starts.now args.ends.now) args.i args.at pre.1.0 loop.v loop.k loop.invariant (omega (arith, loop-test.false, lines-length args.starts.now args.ends.now pre.0))
+returns c = c.done-2.ensures ∙ asked-all c.args.text.now (lines_of c.args.starts.now c.args.ends.now) c.args.i c.args.at c.requires.within c.loop-k.v c.loop-k.k c.loop-k.invariant (omega (arith, c.loop-k-test.false, lines-length c.args.starts.now c.args.ends.now c.requires.starts_len))

@@ -4,24 +4,13 @@ use Rattle.inline.proofs.Lining.{fed-ordered, fed-within, fed-lined, fed-stepped
 use Rattle.inline.proofs.feed_line.Goals as goal
 
 pub margin_of-m-requires : goal.margin_of-m-requires
-margin_of-m-requires c = let args = c.args in
-    let pre = c.requires in
-    omega (arith, fed-ordered args.text.now (record { start = args.start; end = args.end }) args.reading _ args.queue.now args.openers.now args.labels.now pre.0, fed-within args.text.now (record { start = args.start; end = args.end }) args.reading _ args.queue.now args.openers.now args.labels.now pre.0)
+margin_of-m-requires c = omega (arith, fed-ordered c.args.text.now (record { start = c.args.start; end = c.args.end }) c.args.reading _ c.args.queue.now c.args.openers.now c.args.labels.now c.requires.amid, fed-within c.args.text.now (record { start = c.args.start; end = c.args.end }) c.args.reading _ c.args.queue.now c.args.openers.now c.args.labels.now c.requires.amid)
 
 pub slice_bounds-line-count : goal.slice_bounds-line-count
-slice_bounds-line-count c = let args = c.args in
-    let pre = c.requires in
-    fed-ordered args.text.now (record { start = args.start; end = args.end }) args.reading _ args.queue.now args.openers.now args.labels.now pre.0
+slice_bounds-line-count c = fed-ordered c.args.text.now (record { start = c.args.start; end = c.args.end }) c.args.reading _ c.args.queue.now c.args.openers.now c.args.labels.now c.requires.amid
 
 pub read_line-requires : goal.read_line-requires
-read_line-requires c = let args = c.args in
-    let margin-of = c.margin_of-m in
-    let pre = c.requires in
-    (fed-lined args.text.now (record { start = args.start; end = args.end }) margin-of.result margin-of.ensures args.reading args.p args.queue.now args.openers.now args.labels.now pre.0 pre.1.0, pre.1.1)
--- asked: ['lined', 'ruled']
+read_line-requires c = record { lined = fed-lined c.args.text.now (record { start = c.args.start; end = c.args.end }) c.margin_of-m.result c.margin_of-m.ensures c.args.reading c.args.p c.args.queue.now c.args.openers.now c.args.labels.now c.requires.amid c.requires.labels_in_bounds; ruled = c.requires.ruled }
 
 pub returns : goal.returns
-returns c = let args = c.args in
-    let margin-of = c.margin_of-m in
-    let read-line = c.read_line in
-    fed-stepped args.text.now (record { start = args.start; end = args.end }) margin-of.result margin-of.ensures args.reading args.p args.queue.now args.openers.now args.labels.now read-line.result read-line.new.1.1.1.1.1.0 read-line.new.1.1.1.1.1.1.0 read-line.new.1.1.1.1.1.1.1.0 read-line.ensures
+returns c = fed-stepped c.args.text.now (record { start = c.args.start; end = c.args.end }) c.margin_of-m.result c.margin_of-m.ensures c.args.reading c.args.p c.args.queue.now c.args.openers.now c.args.labels.now c.read_line.result c.read_line.new.1.1.1.1.1.0 c.read_line.new.1.1.1.1.1.1.0 c.read_line.new.1.1.1.1.1.1.1.0 c.read_line.ensures

@@ -3,19 +3,11 @@ use Rattle.inline.proofs.Taking.{end_refused, end-opened}
 use Rattle.inline.proofs.finish.Goals as goal
 
 pub ended_at-requires : goal.ended_at-requires
-ended_at-requires c = let pre = c.requires in
-    let args = c.args in
-    let enum-told2 = c.enum_told-in-No-1 in
-    (pre.1.0, end-opened args.end args.p args.queue.now enum-told2.given.1 pre.1.1)
--- asked: ['room', 'opened_by']
+ended_at-requires c = record { room = c.requires.room; opened_by = end-opened c.args.end c.args.p c.args.queue.now c.in-No.is c.requires.closing }
 
 pub returns-in-At : goal.returns-in-At
-returns-in-At c o = let args = c.args in
-    let enum_told = c.enum_told-1 in
-    let pre = c.requires in
-    end_refused args.end args.p args.queue.now _ enum_told.given.1 pre.1.1 o
+returns-in-At c o = end_refused c.args.end c.args.p c.args.queue.now _ c.in-At.is c.requires.closing o
 
 pub returns-in-No : goal.returns-in-No
-returns-in-No c o = let ended_at = c.ended_at in
-    let k = ended_at.ensures o in
+returns-in-No c o = let k = c.ended_at.ensures o in
     record { same = k.same; labels = k.labels }

@@ -8,68 +8,34 @@ use Rattle.inline.proofs.Sheets.{head_first, head-behind, head-next, end-small, 
 use Rattle.inline.proofs.parse.Goals as goal
 
 pub loop-i-init : goal.loop-i-init
-loop-i-init c = let args = c.args in
-    let pre = c.requires in
-    let fresh = c.fresh-p in
-    head_first args.text.now (lines_of args.starts.now args.ends.now) args.reading args.queue.now args.openers.now args.labels.now pre.1 fresh.result fresh.ensures.0 fresh.ensures.1.0
+loop-i-init c = head_first c.args.text.now (lines_of c.args.starts.now c.args.ends.now) c.args.reading c.args.queue.now c.args.openers.now c.args.labels.now c.requires.sheeted c.fresh-p.result c.fresh-p.ensures.by_index c.fresh-p.ensures.labels_value
 
 pub bounds-ends-i : goal.bounds-ends-i
-bounds-ends-i c = let loop-test = c.loop-i-test in
-    let pre = c.requires in
-    omega (arith, loop-test.true, pre.0)
+bounds-ends-i c = omega (arith, c.loop-i-test.true, c.requires.starts_len)
 
 pub parse_line-p-requires : goal.parse_line-p-requires
-parse_line-p-requires c = let pre = c.requires in
-    let args = c.args in
-    let loop = c.loop-i in
-    let loop-test = c.loop-i-test in
-    let classes = c.classes-flags in
-    (pre.0, (head-behind args.text.now (lines_of args.starts.now args.ends.now) args.reading args.queue.now args.openers.now args.labels.now pre.1 loop.queue loop.openers loop.labels loop.p loop.end loop.i loop.invariant (omega (arith, loop-test.true, lines-length args.starts.now args.ends.now pre.0)), (loop.invariant.labels, classes.ensures)))
--- asked: ['starts_len', 'behind', 'labels_in_bounds', 'ruled']
+parse_line-p-requires c = record { starts_len = c.requires.starts_len; behind = head-behind c.args.text.now (lines_of c.args.starts.now c.args.ends.now) c.args.reading c.args.queue.now c.args.openers.now c.args.labels.now c.requires.sheeted c.loop-i.queue c.loop-i.openers c.loop-i.labels c.loop-i.p c.loop-i.end c.loop-i.i c.loop-i.invariant (omega (arith, c.loop-i-test.true, lines-length c.args.starts.now c.args.ends.now c.requires.starts_len)); labels_in_bounds = c.loop-i.invariant.labels; ruled = c.classes-flags.ensures }
 
 pub overflow_add-i : goal.overflow_add-i
-overflow_add-i c = let loop-test = c.loop-i-test in
-    let pre = c.requires in
-    let args = c.args in
-    omega (arith, loop-test.true, pre.1.listed, lines-length args.starts.now args.ends.now pre.0)
+overflow_add-i c = omega (arith, c.loop-i-test.true, c.requires.1.listed, lines-length c.args.starts.now c.args.ends.now c.requires.starts_len)
 
 pub loop-i-smaller : goal.loop-i-smaller
-loop-i-smaller c = let loop-test = c.loop-i-test in
-    omega (arith, loop-test.true)
+loop-i-smaller c = omega (arith, c.loop-i-test.true)
 
 pub loop-i-preserved : goal.loop-i-preserved
-loop-i-preserved c = let args = c.args in
-    let pre = c.requires in
-    let loop = c.loop-i in
-    let loop-test = c.loop-i-test in
-    let parse-line = c.parse_line-p in
-    head-next args.text.now (lines_of args.starts.now args.ends.now) args.reading args.queue.now args.openers.now args.labels.now pre.1 loop.queue loop.openers loop.labels loop.p loop.end loop.i loop.invariant (omega (arith, loop-test.true, lines-length args.starts.now args.ends.now pre.0)) parse-line.result parse-line.new.1.1.1.1.1.1.0 parse-line.new.1.1.1.1.1.1.1.0 parse-line.new.1.1.1.1.1.1.1.1.0 parse-line.ensures parse-line.auto.1.1.1.1.1.1.0 parse-line.auto.1.1.1.1.1.1.1.0 parse-line.auto.1.1.1.1.1.1.1.1.0 _ (ap (λ z. z.end) (lines_at args.starts.now args.ends.now loop.i loop-test.true (omega (arith, loop-test.true, pre.0))))
+loop-i-preserved c = head-next c.args.text.now (lines_of c.args.starts.now c.args.ends.now) c.args.reading c.args.queue.now c.args.openers.now c.args.labels.now c.requires.sheeted c.loop-i.queue c.loop-i.openers c.loop-i.labels c.loop-i.p c.loop-i.end c.loop-i.i c.loop-i.invariant (omega (arith, c.loop-i-test.true, lines-length c.args.starts.now c.args.ends.now c.requires.starts_len)) c.parse_line-p.result c.parse_line-p.new.1.1.1.1.1.1.0 c.parse_line-p.new.1.1.1.1.1.1.1.0 c.parse_line-p.new.1.1.1.1.1.1.1.1.0 c.parse_line-p.ensures c.parse_line-p.auto.1.1.1.1.1.1.0 c.parse_line-p.auto.1.1.1.1.1.1.1.0 c.parse_line-p.auto.1.1.1.1.1.1.1.1.0 _ (ap (λ z. z.end) (lines_at c.args.starts.now c.args.ends.now c.loop-i.i c.loop-i-test.true (omega (arith, c.loop-i-test.true, c.requires.starts_len))))
 
 pub finish-requires : goal.finish-requires
-finish-requires c = let args = c.args in
-    let pre = c.requires in
-    let loop = c.loop-i in
-    let loop-test = c.loop-i-test in
-    (end-small args.text.now (lines_of args.starts.now args.ends.now) args.reading args.queue.now args.openers.now args.labels.now pre.1 loop.queue loop.openers loop.labels loop.p loop.end loop.i loop.invariant (omega (arith, loop-test.false, lines-length args.starts.now args.ends.now pre.0)), (end-room args.text.now (lines_of args.starts.now args.ends.now) args.reading args.queue.now args.openers.now args.labels.now pre.1 loop.queue loop.openers loop.labels loop.p loop.end loop.i loop.invariant (omega (arith, loop-test.false, lines-length args.starts.now args.ends.now pre.0)), end-closing args.text.now (lines_of args.starts.now args.ends.now) args.reading args.queue.now args.openers.now args.labels.now pre.1 loop.queue loop.openers loop.labels loop.p loop.end loop.i loop.invariant (omega (arith, loop-test.false, lines-length args.starts.now args.ends.now pre.0))))
--- asked: ['end_bound', 'room', 'closing']
+finish-requires c = record { end_bound = end-small c.args.text.now (lines_of c.args.starts.now c.args.ends.now) c.args.reading c.args.queue.now c.args.openers.now c.args.labels.now c.requires.sheeted c.loop-i.queue c.loop-i.openers c.loop-i.labels c.loop-i.p c.loop-i.end c.loop-i.i c.loop-i.invariant (omega (arith, c.loop-i-test.false, lines-length c.args.starts.now c.args.ends.now c.requires.starts_len)); room = end-room c.args.text.now (lines_of c.args.starts.now c.args.ends.now) c.args.reading c.args.queue.now c.args.openers.now c.args.labels.now c.requires.sheeted c.loop-i.queue c.loop-i.openers c.loop-i.labels c.loop-i.p c.loop-i.end c.loop-i.i c.loop-i.invariant (omega (arith, c.loop-i-test.false, lines-length c.args.starts.now c.args.ends.now c.requires.starts_len)); closing = end-closing c.args.text.now (lines_of c.args.starts.now c.args.ends.now) c.args.reading c.args.queue.now c.args.openers.now c.args.labels.now c.requires.sheeted c.loop-i.queue c.loop-i.openers c.loop-i.labels c.loop-i.p c.loop-i.end c.loop-i.i c.loop-i.invariant (omega (arith, c.loop-i-test.false, lines-length c.args.starts.now c.args.ends.now c.requires.starts_len)) }
 
 pub shape_of-queue : goal.shape_of-queue
-shape_of-queue c = let finish = c.finish in
-    let loop = c.loop-i in
-    omega (arith, (finish.auto.1.1.0), loop.invariant.long_q)
+shape_of-queue c = omega (arith, (c.finish.auto.1.1.0), c.loop-i.invariant.long_q)
 
 pub shape_of-openers : goal.shape_of-openers
-shape_of-openers c = let loop = c.loop-i in
-    loop.invariant.long_o
+shape_of-openers c = c.loop-i.invariant.long_o
 
 pub shape_of-labels : goal.shape_of-labels
-shape_of-labels c = let loop = c.loop-i in
-    loop.invariant.long_l
+shape_of-labels c = c.loop-i.invariant.long_l
 
 pub returns : goal.returns
-returns c = let args = c.args in
-    let pre = c.requires in
-    let loop = c.loop-i in
-    let loop-test = c.loop-i-test in
-    let finish = c.finish in
-    head-last args.text.now (lines_of args.starts.now args.ends.now) args.reading args.queue.now args.openers.now args.labels.now pre.1 loop.queue loop.openers loop.labels loop.p loop.end loop.i loop.invariant (omega (arith, loop-test.false, lines-length args.starts.now args.ends.now pre.0)) finish.result finish.new.1.1.0 (finish.ensures loop.openers)
+returns c = head-last c.args.text.now (lines_of c.args.starts.now c.args.ends.now) c.args.reading c.args.queue.now c.args.openers.now c.args.labels.now c.requires.sheeted c.loop-i.queue c.loop-i.openers c.loop-i.labels c.loop-i.p c.loop-i.end c.loop-i.i c.loop-i.invariant (omega (arith, c.loop-i-test.false, lines-length c.args.starts.now c.args.ends.now c.requires.starts_len)) c.finish.result c.finish.new.1.1.0 (c.finish.ensures c.loop-i.openers)

@@ -14,87 +14,38 @@ use Rattle.inline.proofs.Taking.{event-outside, event-verbatim}
 use Rattle.inline.proofs.parse_event.Goals as goal
 
 pub returns-in_default : goal.returns-in_default
-returns-in_default c = let args = c.args in
-    let pre = c.requires in
-    let next = c.next_token-lexed in
-    let enum_told = c.enum_told-1 in
-    event-none args.text.now args.reading args.line.now args.m args.p args.queue.now args.openers.now args.labels.now pre.0 next.result next.ensures enum_told.given.1
+returns-in_default c = event-none c.args.text.now c.args.reading c.args.line.now c.args.m c.args.p c.args.queue.now c.args.openers.now c.args.labels.now c.requires.before c.next_token-lexed.result c.next_token-lexed.ensures c.in_default.is
 
 pub overflow_add-h : goal.overflow_add-h
-overflow_add-h c = let args = c.args in
-    let pre = c.requires in
-    let next = c.next_token-lexed in
-    let next₂ = c.next-1 in
-    omega (arith, event-within args.text.now args.reading args.line.now args.m args.p args.queue.now args.openers.now args.labels.now pre.0 next.result next.ensures _ next₂.given.1, pre.0.small)
+overflow_add-h c = omega (arith, event-within c.args.text.now c.args.reading c.args.line.now c.args.m c.args.p c.args.queue.now c.args.openers.now c.args.labels.now c.requires.before c.next_token-lexed.result c.next_token-lexed.ensures _ c.in-Some.is, c.requires.before.small)
 
 pub put-requires : goal.put-requires
-put-requires c = let args = c.args in
-    let pre = c.requires in
-    let next = c.next_token-lexed in
-    let next₂ = c.next-1 in
-    let moved = c.moved-out in
-    (event-fits args.text.now args.reading args.line.now args.m args.p args.queue.now args.openers.now args.labels.now pre.0 next.result next.ensures _ next₂.given.1 moved.result moved.ensures, event-room args.text.now args.reading args.line.now args.m args.p args.queue.now args.openers.now args.labels.now pre.0 next.result next.ensures _ next₂.given.1 moved.result moved.ensures)
--- asked: ['fits', 'room']
+put-requires c = record { fits = event-fits c.args.text.now c.args.reading c.args.line.now c.args.m c.args.p c.args.queue.now c.args.openers.now c.args.labels.now c.requires.before c.next_token-lexed.result c.next_token-lexed.ensures _ c.in-Some.is c.moved-out.result c.moved-out.ensures; room = event-room c.args.text.now c.args.reading c.args.line.now c.args.m c.args.p c.args.queue.now c.args.openers.now c.args.labels.now c.requires.before c.next_token-lexed.result c.next_token-lexed.ensures _ c.in-Some.is c.moved-out.result c.moved-out.ensures }
 
 pub outside-requires : goal.outside-requires
-outside-requires c = let args = c.args in
-    let pre = c.requires in
-    let next = c.next_token-lexed in
-    let next₂ = c.next-1 in
-    let moved = c.moved-out in
-    let enum-told2 = c.enum_told-in-No-1 in (
-      event-ready args.text.now args.reading args.line.now args.m args.p args.queue.now args.openers.now args.labels.now pre.0 next.result next.ensures _ next₂.given.1 moved.result moved.ensures,
+outside-requires c = (
+      event-ready c.args.text.now c.args.reading c.args.line.now c.args.m c.args.p c.args.queue.now c.args.openers.now c.args.labels.now c.requires.before c.next_token-lexed.result c.next_token-lexed.ensures _ c.in-Some.is c.moved-out.result c.moved-out.ensures,
       (
-        event-label-room args.text.now args.reading args.line.now args.m args.p args.queue.now args.openers.now args.labels.now pre.0 next.result next.ensures _ next₂.given.1 moved.result moved.ensures,
-        (event-ended args.text.now args.reading args.line.now args.m args.p args.queue.now args.openers.now args.labels.now pre.0 next.result next.ensures _ next₂.given.1 moved.result moved.ensures enum-told2.given.1, pre.1),
+        event-label-room c.args.text.now c.args.reading c.args.line.now c.args.m c.args.p c.args.queue.now c.args.openers.now c.args.labels.now c.requires.before c.next_token-lexed.result c.next_token-lexed.ensures _ c.in-Some.is c.moved-out.result c.moved-out.ensures,
+        (event-ended c.args.text.now c.args.reading c.args.line.now c.args.m c.args.p c.args.queue.now c.args.openers.now c.args.labels.now c.requires.before c.next_token-lexed.result c.next_token-lexed.ensures _ c.in-Some.is c.moved-out.result c.moved-out.ensures c.in-No.is, c.requires.ruled),
       ),
     )
 -- asked: ['ready', 'label_room', 'ended', 'ruled']
 
 pub in_verbatim-requires : goal.in_verbatim-requires
-in_verbatim-requires c = let args = c.args in
-    let pre = c.requires in
-    let next = c.next_token-lexed in
-    let next₂ = c.next-1 in
-    let moved = c.moved-out in
-    let w = c.w-1 in
-    (event-fits args.text.now args.reading args.line.now args.m args.p args.queue.now args.openers.now args.labels.now pre.0 next.result next.ensures _ next₂.given.1 moved.result moved.ensures, (event-opened args.text.now args.reading args.line.now args.m args.p args.queue.now args.openers.now args.labels.now pre.0 next.result next.ensures _ next₂.given.1 moved.result moved.ensures _ w.given.1, (event-room args.text.now args.reading args.line.now args.m args.p args.queue.now args.openers.now args.labels.now pre.0 next.result next.ensures _ next₂.given.1 moved.result moved.ensures, pre.1)))
--- asked: ['fits', 'opened', 'room', 'ruled']
+in_verbatim-requires c = record { fits = event-fits c.args.text.now c.args.reading c.args.line.now c.args.m c.args.p c.args.queue.now c.args.openers.now c.args.labels.now c.requires.before c.next_token-lexed.result c.next_token-lexed.ensures _ c.in-Some.is c.moved-out.result c.moved-out.ensures; opened = event-opened c.args.text.now c.args.reading c.args.line.now c.args.m c.args.p c.args.queue.now c.args.openers.now c.args.labels.now c.requires.before c.next_token-lexed.result c.next_token-lexed.ensures _ c.in-Some.is c.moved-out.result c.moved-out.ensures _ c.in-Verbatim.is; room = event-room c.args.text.now c.args.reading c.args.line.now c.args.m c.args.p c.args.queue.now c.args.openers.now c.args.labels.now c.requires.before c.next_token-lexed.result c.next_token-lexed.ensures _ c.in-Some.is c.moved-out.result c.moved-out.ensures; ruled = c.requires.ruled }
 
 pub returns-in-Text : goal.returns-in-Text
-returns-in-Text c = let args = c.args in
-    let pre = c.requires in
-    let next = c.next_token-lexed in
-    let next₂ = c.next-1 in
-    let moved = c.moved-out in
-    let put = c.put in
-    let enum-told2 = c.enum_told-in-No-1 in
-    let enum-told3 = c.enum_told-in-Text-1 in
-    let x = sheet_of (rules_of args.reading) args.text.now args.labels.now in
-    let v = viewed args.m args.line.now in
-    let s = event-label-room args.text.now args.reading args.line.now args.m args.p args.queue.now args.openers.now args.labels.now pre.0 next.result next.ensures _ next₂.given.1 moved.result moved.ensures in
-    event-outside args.text.now args.reading args.line.now args.m args.p args.queue.now args.openers.now args.labels.now pre.0 next.result next.ensures _ next₂.given.1 moved.result moved.ensures put.result put.new.1.1.1.1.1.0 args.openers.now args.labels.now enum-told2.given.1 _ refl
-    (as-other x v (here _ moved.result) moved.result args.queue.now args.openers.now args.labels.now put.result put.new.1.1.1.1.1.0 args.openers.now args.labels.now _ (plain str) (text-role _ enum-told3.given.1)
-    (changed-stepped moved.result args.queue.now args.openers.now put.result put.new.1.1.1.1.1.0 args.openers.now _
-    (alone x v _ moved.result args.queue.now args.openers.now put.result put.new.1.1.1.1.1.0 (put.ensures args.openers.now)) args.labels.now s.labels))
+returns-in-Text c = let x = sheet_of (rules_of c.args.reading) c.args.text.now c.args.labels.now in
+    let v = viewed c.args.m c.args.line.now in
+    let s = event-label-room c.args.text.now c.args.reading c.args.line.now c.args.m c.args.p c.args.queue.now c.args.openers.now c.args.labels.now c.requires.before c.next_token-lexed.result c.next_token-lexed.ensures _ c.in-Some.is c.moved-out.result c.moved-out.ensures in
+    event-outside c.args.text.now c.args.reading c.args.line.now c.args.m c.args.p c.args.queue.now c.args.openers.now c.args.labels.now c.requires.before c.next_token-lexed.result c.next_token-lexed.ensures _ c.in-Some.is c.moved-out.result c.moved-out.ensures c.put.result c.put.new.1.1.1.1.1.0 c.args.openers.now c.args.labels.now c.in-No.is _ refl
+    (as-other x v (here _ c.moved-out.result) c.moved-out.result c.args.queue.now c.args.openers.now c.args.labels.now c.put.result c.put.new.1.1.1.1.1.0 c.args.openers.now c.args.labels.now _ (plain str) (text-role _ c.in-Text.is)
+    (changed-stepped c.moved-out.result c.args.queue.now c.args.openers.now c.put.result c.put.new.1.1.1.1.1.0 c.args.openers.now _
+    (alone x v _ c.moved-out.result c.args.queue.now c.args.openers.now c.put.result c.put.new.1.1.1.1.1.0 (c.put.ensures c.args.openers.now)) c.args.labels.now s.labels))
 
 pub returns-in_default-kind : goal.returns-in_default-kind
-returns-in_default-kind c = let args = c.args in
-    let pre = c.requires in
-    let next = c.next_token-lexed in
-    let next₂ = c.next-1 in
-    let moved = c.moved-out in
-    let outside = c.outside in
-    let enum-told2 = c.enum_told-in-No-1 in
-    let role_of = c.role_of in
-    event-outside args.text.now args.reading args.line.now args.m args.p args.queue.now args.openers.now args.labels.now pre.0 next.result next.ensures _ next₂.given.1 moved.result moved.ensures outside.result outside.new.1.1.1.1.1.1.0 outside.new.1.1.1.1.1.1.1.0 outside.new.1.1.1.1.1.1.1.1.0 enum-told2.given.1 role_of.result role_of.ensures (outside.ensures (rules_of args.reading))
+returns-in_default-kind c = event-outside c.args.text.now c.args.reading c.args.line.now c.args.m c.args.p c.args.queue.now c.args.openers.now c.args.labels.now c.requires.before c.next_token-lexed.result c.next_token-lexed.ensures _ c.in-Some.is c.moved-out.result c.moved-out.ensures c.outside.result c.outside.new.1.1.1.1.1.1.0 c.outside.new.1.1.1.1.1.1.1.0 c.outside.new.1.1.1.1.1.1.1.1.0 c.in-No.is c.role_of.result c.role_of.ensures (c.outside.ensures (rules_of c.args.reading))
 
 pub returns-in-Verbatim : goal.returns-in-Verbatim
-returns-in-Verbatim c = let args = c.args in
-    let pre = c.requires in
-    let next = c.next_token-lexed in
-    let next₂ = c.next-1 in
-    let moved = c.moved-out in
-    let in_verbatim = c.in_verbatim in
-    let w = c.w-1 in
-    event-verbatim args.text.now args.reading args.line.now args.m args.p args.queue.now args.openers.now args.labels.now pre.0 next.result next.ensures _ next₂.given.1 moved.result moved.ensures in_verbatim.result in_verbatim.new.1.1.1.1.1.1.1.0 _ w.given.1 (in_verbatim.ensures args.openers.now)
+returns-in-Verbatim c = event-verbatim c.args.text.now c.args.reading c.args.line.now c.args.m c.args.p c.args.queue.now c.args.openers.now c.args.labels.now c.requires.before c.next_token-lexed.result c.next_token-lexed.ensures _ c.in-Some.is c.moved-out.result c.moved-out.ensures c.in_verbatim.result c.in_verbatim.new.1.1.1.1.1.1.1.0 _ c.in-Verbatim.is (c.in_verbatim.ensures c.args.openers.now)

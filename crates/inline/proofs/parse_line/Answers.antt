@@ -11,245 +11,126 @@ use Rattle.inline.proofs.Resuming.{walks-brace, walks_next, line_refused, here-l
 use Rattle.inline.proofs.parse_line.Goals as goal
 
 pub returns-in_default : goal.returns-in_default
-returns-in_default c = let args = c.args in
-    let pre = c.requires in
-    let enum-told2 = c.enum_told-in_default-1 in
-    record { same = line_refused args.text.now (lines_of args.starts.now args.ends.now) args.i args.reading (stands args.p args.queue.now args.openers.now args.labels.now) args.queue.now args.openers.now args.labels.now pre.1.0 enum-told2.given.0.0 enum-told2.given.1; labels = pre.1.1.0 }
+returns-in_default c = record { same = line_refused c.args.text.now (lines_of c.args.starts.now c.args.ends.now) c.args.i c.args.reading (stands c.args.p c.args.queue.now c.args.openers.now c.args.labels.now) c.args.queue.now c.args.openers.now c.args.labels.now c.requires.behind c.in_default.field-0 c.in_default.is; labels = c.requires.labels_in_bounds }
 
 pub bounds-starts-i : goal.bounds-starts-i
-bounds-starts-i c = let args = c.args in
-    let pre = c.requires in
-    let some : args.i < length args.starts.now = omega (arith, pre.1.0.some, lines-length args.starts.now args.ends.now pre.0) in
+bounds-starts-i c = let some : c.args.i < length c.args.starts.now = omega (arith, c.requires.behind.some, lines-length c.args.starts.now c.args.ends.now c.requires.starts_len) in
     some
 
 pub bounds-ends-i : goal.bounds-ends-i
-bounds-ends-i c = let args = c.args in
-    let pre = c.requires in
-    let some : args.i < length args.starts.now = omega (arith, pre.1.0.some, lines-length args.starts.now args.ends.now pre.0) in
-    omega (arith, some, pre.0)
+bounds-ends-i c = let some : c.args.i < length c.args.starts.now = omega (arith, c.requires.behind.some, lines-length c.args.starts.now c.args.ends.now c.requires.starts_len) in
+    omega (arith, some, c.requires.starts_len)
 
 pub overflow_sub-left : goal.overflow_sub-left
-overflow_sub-left c = let args = c.args in
-    let pre = c.requires in
-    let some : args.i < length args.starts.now = omega (arith, pre.1.0.some, lines-length args.starts.now args.ends.now pre.0) in
-    omega (arith, here-ordered args.text.now (lines_of args.starts.now args.ends.now) args.i args.reading (stands args.p args.queue.now args.openers.now args.labels.now) args.queue.now args.openers.now args.labels.now pre.1.0, ap (λ z. z.start) (lines_at args.starts.now args.ends.now args.i some (omega (arith, some, pre.0))), ap (λ z. z.end) (lines_at args.starts.now args.ends.now args.i some (omega (arith, some, pre.0))))
+overflow_sub-left c = let some : c.args.i < length c.args.starts.now = omega (arith, c.requires.behind.some, lines-length c.args.starts.now c.args.ends.now c.requires.starts_len) in
+    omega (arith, here-ordered c.args.text.now (lines_of c.args.starts.now c.args.ends.now) c.args.i c.args.reading (stands c.args.p c.args.queue.now c.args.openers.now c.args.labels.now) c.args.queue.now c.args.openers.now c.args.labels.now c.requires.behind, ap (λ z. z.start) (lines_at c.args.starts.now c.args.ends.now c.args.i some (omega (arith, some, c.requires.starts_len))), ap (λ z. z.end) (lines_at c.args.starts.now c.args.ends.now c.args.i some (omega (arith, some, c.requires.starts_len))))
 
 pub overflow_add-left : goal.overflow_add-left
-overflow_add-left c = let args = c.args in
-    let pre = c.requires in
-    let some : args.i < length args.starts.now = omega (arith, pre.1.0.some, lines-length args.starts.now args.ends.now pre.0) in
-    omega (arith, here-ordered args.text.now (lines_of args.starts.now args.ends.now) args.i args.reading (stands args.p args.queue.now args.openers.now args.labels.now) args.queue.now args.openers.now args.labels.now pre.1.0, here-within args.text.now (lines_of args.starts.now args.ends.now) args.i args.reading (stands args.p args.queue.now args.openers.now args.labels.now) args.queue.now args.openers.now args.labels.now pre.1.0, pre.1.0.asks.small, ap (λ z. z.start) (lines_at args.starts.now args.ends.now args.i some (omega (arith, some, pre.0))), ap (λ z. z.end) (lines_at args.starts.now args.ends.now args.i some (omega (arith, some, pre.0))))
+overflow_add-left c = let some : c.args.i < length c.args.starts.now = omega (arith, c.requires.behind.some, lines-length c.args.starts.now c.args.ends.now c.requires.starts_len) in
+    omega (arith, here-ordered c.args.text.now (lines_of c.args.starts.now c.args.ends.now) c.args.i c.args.reading (stands c.args.p c.args.queue.now c.args.openers.now c.args.labels.now) c.args.queue.now c.args.openers.now c.args.labels.now c.requires.behind, here-within c.args.text.now (lines_of c.args.starts.now c.args.ends.now) c.args.i c.args.reading (stands c.args.p c.args.queue.now c.args.openers.now c.args.labels.now) c.args.queue.now c.args.openers.now c.args.labels.now c.requires.behind, c.requires.behind.asks.small, ap (λ z. z.start) (lines_at c.args.starts.now c.args.ends.now c.args.i some (omega (arith, some, c.requires.starts_len))), ap (λ z. z.end) (lines_at c.args.starts.now c.args.ends.now c.args.i some (omega (arith, some, c.requires.starts_len))))
 
 pub loop-left-init : goal.loop-left-init
-loop-left-init c = let args = c.args in
-    let pre = c.requires in
-    let begin-line = c.begin_line-out in
-    let some : args.i < length args.starts.now = omega (arith, pre.1.0.some, lines-length args.starts.now args.ends.now pre.0) in
-    λ s e. walks-first args.text.now (lines_of args.starts.now args.ends.now) args.i args.reading s args.queue.now args.openers.now args.labels.now e.behind begin-line.result e _ (omega (arith, here-long args.text.now (lines_of args.starts.now args.ends.now) args.i args.reading s args.queue.now args.openers.now args.labels.now e.behind, ap (λ z. z.start) (lines_at args.starts.now args.ends.now args.i some (omega (arith, some, pre.0))), ap (λ z. z.end) (lines_at args.starts.now args.ends.now args.i some (omega (arith, some, pre.0)))))
+loop-left-init c = let some : c.args.i < length c.args.starts.now = omega (arith, c.requires.behind.some, lines-length c.args.starts.now c.args.ends.now c.requires.starts_len) in
+    λ s e. walks-first c.args.text.now (lines_of c.args.starts.now c.args.ends.now) c.args.i c.args.reading s c.args.queue.now c.args.openers.now c.args.labels.now e.behind c.begin_line-out.result e _ (omega (arith, here-long c.args.text.now (lines_of c.args.starts.now c.args.ends.now) c.args.i c.args.reading s c.args.queue.now c.args.openers.now c.args.labels.now e.behind, ap (λ z. z.start) (lines_at c.args.starts.now c.args.ends.now c.args.i some (omega (arith, some, c.requires.starts_len))), ap (λ z. z.end) (lines_at c.args.starts.now c.args.ends.now c.args.i some (omega (arith, some, c.requires.starts_len)))))
 
 pub feed_line-out-requires : goal.feed_line-out-requires
-feed_line-out-requires c = let args = c.args in
-    let pre = c.requires in
-    let enum_told = c.enum_told-1 in
-    let begin-line = c.begin_line-out in
-    let loop = c.loop-left in
-    let some : args.i < length args.starts.now = omega (arith, pre.1.0.some, lines-length args.starts.now args.ends.now pre.0) in
-    let e = entered args.text.now (lines_of args.starts.now args.ends.now) args.i args.reading args.p args.queue.now args.openers.now args.labels.now pre.1.0 enum_told.given.1 pre.1.1.0 begin-line.result begin-line.ensures in
-    let t = loop.invariant (stands args.p args.queue.now args.openers.now args.labels.now) e in
-    (walks-amid args.text.now (lines_of args.starts.now args.ends.now) args.i args.reading (stands args.p args.queue.now args.openers.now args.labels.now) args.queue.now args.openers.now args.labels.now e.behind loop.queue loop.openers loop.labels loop.out loop.left t _ (lines_at args.starts.now args.ends.now args.i some (omega (arith, some, pre.0))), (t.labels, pre.1.1.1))
+feed_line-out-requires c = let some : c.args.i < length c.args.starts.now = omega (arith, c.requires.behind.some, lines-length c.args.starts.now c.args.ends.now c.requires.starts_len) in
+    let e = entered c.args.text.now (lines_of c.args.starts.now c.args.ends.now) c.args.i c.args.reading c.args.p c.args.queue.now c.args.openers.now c.args.labels.now c.requires.behind c.in-No.is c.requires.labels_in_bounds c.begin_line-out.result c.begin_line-out.ensures in
+    let t = c.loop-left.invariant (stands c.args.p c.args.queue.now c.args.openers.now c.args.labels.now) e in
+    (walks-amid c.args.text.now (lines_of c.args.starts.now c.args.ends.now) c.args.i c.args.reading (stands c.args.p c.args.queue.now c.args.openers.now c.args.labels.now) c.args.queue.now c.args.openers.now c.args.labels.now e.behind c.loop-left.queue c.loop-left.openers c.loop-left.labels c.loop-left.out c.loop-left.left t _ (lines_at c.args.starts.now c.args.ends.now c.args.i some (omega (arith, some, c.requires.starts_len))), (t.labels, c.requires.ruled))
 -- asked: ['amid', 'labels_in_bounds', 'ruled']
 
 pub shape_of-queue-in_default-refused : goal.shape_of-queue-in_default-refused
-shape_of-queue-in_default-refused c = let args = c.args in
-    let pre = c.requires in
-    let enum_told = c.enum_told-1 in
-    let begin-line = c.begin_line-out in
-    let loop = c.loop-left in
-    let feed-line = c.feed_line-out in
-    let some : args.i < length args.starts.now = omega (arith, pre.1.0.some, lines-length args.starts.now args.ends.now pre.0) in
-    let e = entered args.text.now (lines_of args.starts.now args.ends.now) args.i args.reading args.p args.queue.now args.openers.now args.labels.now pre.1.0 enum_told.given.1 pre.1.1.0 begin-line.result begin-line.ensures in
-    let t = loop.invariant (stands args.p args.queue.now args.openers.now args.labels.now) e in
-    omega (arith, t.long_q, feed-line.auto.1.1.1.1.1.0)
+shape_of-queue-in_default-refused c = let some : c.args.i < length c.args.starts.now = omega (arith, c.requires.behind.some, lines-length c.args.starts.now c.args.ends.now c.requires.starts_len) in
+    let e = entered c.args.text.now (lines_of c.args.starts.now c.args.ends.now) c.args.i c.args.reading c.args.p c.args.queue.now c.args.openers.now c.args.labels.now c.requires.behind c.in-No.is c.requires.labels_in_bounds c.begin_line-out.result c.begin_line-out.ensures in
+    let t = c.loop-left.invariant (stands c.args.p c.args.queue.now c.args.openers.now c.args.labels.now) e in
+    omega (arith, t.long_q, c.feed_line-out.auto.1.1.1.1.1.0)
 
 pub shape_of-openers-in_default-refused : goal.shape_of-openers-in_default-refused
-shape_of-openers-in_default-refused c = let args = c.args in
-    let pre = c.requires in
-    let enum_told = c.enum_told-1 in
-    let begin-line = c.begin_line-out in
-    let loop = c.loop-left in
-    let feed-line = c.feed_line-out in
-    let some : args.i < length args.starts.now = omega (arith, pre.1.0.some, lines-length args.starts.now args.ends.now pre.0) in
-    let e = entered args.text.now (lines_of args.starts.now args.ends.now) args.i args.reading args.p args.queue.now args.openers.now args.labels.now pre.1.0 enum_told.given.1 pre.1.1.0 begin-line.result begin-line.ensures in
-    let t = loop.invariant (stands args.p args.queue.now args.openers.now args.labels.now) e in
-    omega (arith, t.long_o, feed-line.auto.1.1.1.1.1.1.0)
+shape_of-openers-in_default-refused c = let some : c.args.i < length c.args.starts.now = omega (arith, c.requires.behind.some, lines-length c.args.starts.now c.args.ends.now c.requires.starts_len) in
+    let e = entered c.args.text.now (lines_of c.args.starts.now c.args.ends.now) c.args.i c.args.reading c.args.p c.args.queue.now c.args.openers.now c.args.labels.now c.requires.behind c.in-No.is c.requires.labels_in_bounds c.begin_line-out.result c.begin_line-out.ensures in
+    let t = c.loop-left.invariant (stands c.args.p c.args.queue.now c.args.openers.now c.args.labels.now) e in
+    omega (arith, t.long_o, c.feed_line-out.auto.1.1.1.1.1.1.0)
 
 pub shape_of-labels-in_default-refused : goal.shape_of-labels-in_default-refused
-shape_of-labels-in_default-refused c = let args = c.args in
-    let pre = c.requires in
-    let enum_told = c.enum_told-1 in
-    let begin-line = c.begin_line-out in
-    let loop = c.loop-left in
-    let feed-line = c.feed_line-out in
-    let some : args.i < length args.starts.now = omega (arith, pre.1.0.some, lines-length args.starts.now args.ends.now pre.0) in
-    let e = entered args.text.now (lines_of args.starts.now args.ends.now) args.i args.reading args.p args.queue.now args.openers.now args.labels.now pre.1.0 enum_told.given.1 pre.1.1.0 begin-line.result begin-line.ensures in
-    let t = loop.invariant (stands args.p args.queue.now args.openers.now args.labels.now) e in
-    omega (arith, t.long_l, feed-line.auto.1.1.1.1.1.1.1.0)
+shape_of-labels-in_default-refused c = let some : c.args.i < length c.args.starts.now = omega (arith, c.requires.behind.some, lines-length c.args.starts.now c.args.ends.now c.requires.starts_len) in
+    let e = entered c.args.text.now (lines_of c.args.starts.now c.args.ends.now) c.args.i c.args.reading c.args.p c.args.queue.now c.args.openers.now c.args.labels.now c.requires.behind c.in-No.is c.requires.labels_in_bounds c.begin_line-out.result c.begin_line-out.ensures in
+    let t = c.loop-left.invariant (stands c.args.p c.args.queue.now c.args.openers.now c.args.labels.now) e in
+    omega (arith, t.long_l, c.feed_line-out.auto.1.1.1.1.1.1.1.0)
 
 pub returns-in_default-refused : goal.returns-in_default-refused
-returns-in_default-refused c = let args = c.args in
-    let pre = c.requires in
-    let enum_told = c.enum_told-1 in
-    let begin-line = c.begin_line-out in
-    let loop = c.loop-left in
-    let feed-line = c.feed_line-out in
-    let enum-told3 = c.enum_told-in_default-refused-1 in
-    let some : args.i < length args.starts.now = omega (arith, pre.1.0.some, lines-length args.starts.now args.ends.now pre.0) in
-    let e = entered args.text.now (lines_of args.starts.now args.ends.now) args.i args.reading args.p args.queue.now args.openers.now args.labels.now pre.1.0 enum_told.given.1 pre.1.1.0 begin-line.result begin-line.ensures in
-    let t = loop.invariant (stands args.p args.queue.now args.openers.now args.labels.now) e in
-    walks-end args.text.now (lines_of args.starts.now args.ends.now) args.i args.reading (stands args.p args.queue.now args.openers.now args.labels.now) args.queue.now args.openers.now args.labels.now e.behind loop.queue loop.openers loop.labels loop.out loop.left t _ (lines_at args.starts.now args.ends.now args.i some (omega (arith, some, pre.0))) feed-line.result feed-line.new.1.1.1.1.1.0 feed-line.new.1.1.1.1.1.1.0 feed-line.new.1.1.1.1.1.1.1.0 feed-line.ensures enum-told3.given.1
+returns-in_default-refused c = let some : c.args.i < length c.args.starts.now = omega (arith, c.requires.behind.some, lines-length c.args.starts.now c.args.ends.now c.requires.starts_len) in
+    let e = entered c.args.text.now (lines_of c.args.starts.now c.args.ends.now) c.args.i c.args.reading c.args.p c.args.queue.now c.args.openers.now c.args.labels.now c.requires.behind c.in-No.is c.requires.labels_in_bounds c.begin_line-out.result c.begin_line-out.ensures in
+    let t = c.loop-left.invariant (stands c.args.p c.args.queue.now c.args.openers.now c.args.labels.now) e in
+    walks-end c.args.text.now (lines_of c.args.starts.now c.args.ends.now) c.args.i c.args.reading (stands c.args.p c.args.queue.now c.args.openers.now c.args.labels.now) c.args.queue.now c.args.openers.now c.args.labels.now e.behind c.loop-left.queue c.loop-left.openers c.loop-left.labels c.loop-left.out c.loop-left.left t _ (lines_at c.args.starts.now c.args.ends.now c.args.i some (omega (arith, some, c.requires.starts_len))) c.feed_line-out.result c.feed_line-out.new.1.1.1.1.1.0 c.feed_line-out.new.1.1.1.1.1.1.0 c.feed_line-out.new.1.1.1.1.1.1.1.0 c.feed_line-out.ensures c.in_default-refused.is
 
 pub block_at-requires : goal.block_at-requires
-block_at-requires c = let args = c.args in
-    let pre = c.requires in
-    let enum_told = c.enum_told-1 in
-    let begin-line = c.begin_line-out in
-    let loop = c.loop-left in
-    let feed-line = c.feed_line-out in
-    let refused = c.refused-1 in
-    let some : args.i < length args.starts.now = omega (arith, pre.1.0.some, lines-length args.starts.now args.ends.now pre.0) in
-    let e = entered args.text.now (lines_of args.starts.now args.ends.now) args.i args.reading args.p args.queue.now args.openers.now args.labels.now pre.1.0 enum_told.given.1 pre.1.1.0 begin-line.result begin-line.ensures in
-    let t = loop.invariant (stands args.p args.queue.now args.openers.now args.labels.now) e in
-    (pre.0, (walks-within args.text.now (lines_of args.starts.now args.ends.now) args.i args.reading (stands args.p args.queue.now args.openers.now args.labels.now) args.queue.now args.openers.now args.labels.now e.behind loop.queue loop.openers loop.labels loop.out loop.left t _ (lines_at args.starts.now args.ends.now args.i some (omega (arith, some, pre.0))) feed-line.result feed-line.new.1.1.1.1.1.0 feed-line.new.1.1.1.1.1.1.0 feed-line.new.1.1.1.1.1.1.1.0 feed-line.ensures refused.given.0.0 refused.given.1, pre.1.1.1))
+block_at-requires c = let some : c.args.i < length c.args.starts.now = omega (arith, c.requires.behind.some, lines-length c.args.starts.now c.args.ends.now c.requires.starts_len) in
+    let e = entered c.args.text.now (lines_of c.args.starts.now c.args.ends.now) c.args.i c.args.reading c.args.p c.args.queue.now c.args.openers.now c.args.labels.now c.requires.behind c.in-No.is c.requires.labels_in_bounds c.begin_line-out.result c.begin_line-out.ensures in
+    let t = c.loop-left.invariant (stands c.args.p c.args.queue.now c.args.openers.now c.args.labels.now) e in
+    (c.requires.starts_len, (walks-within c.args.text.now (lines_of c.args.starts.now c.args.ends.now) c.args.i c.args.reading (stands c.args.p c.args.queue.now c.args.openers.now c.args.labels.now) c.args.queue.now c.args.openers.now c.args.labels.now e.behind c.loop-left.queue c.loop-left.openers c.loop-left.labels c.loop-left.out c.loop-left.left t _ (lines_at c.args.starts.now c.args.ends.now c.args.i some (omega (arith, some, c.requires.starts_len))) c.feed_line-out.result c.feed_line-out.new.1.1.1.1.1.0 c.feed_line-out.new.1.1.1.1.1.1.0 c.feed_line-out.new.1.1.1.1.1.1.1.0 c.feed_line-out.ensures c.in-At.at c.in-At.is, c.requires.ruled))
 -- asked: ['starts_len', 'within', 'ruled']
 
 pub shape_of-queue-then-block_at : goal.shape_of-queue-then-block_at
-shape_of-queue-then-block_at c = let args = c.args in
-    let pre = c.requires in
-    let enum_told = c.enum_told-1 in
-    let begin-line = c.begin_line-out in
-    let loop = c.loop-left in
-    let feed-line = c.feed_line-out in
-    let some : args.i < length args.starts.now = omega (arith, pre.1.0.some, lines-length args.starts.now args.ends.now pre.0) in
-    let e = entered args.text.now (lines_of args.starts.now args.ends.now) args.i args.reading args.p args.queue.now args.openers.now args.labels.now pre.1.0 enum_told.given.1 pre.1.1.0 begin-line.result begin-line.ensures in
-    let t = loop.invariant (stands args.p args.queue.now args.openers.now args.labels.now) e in
-    omega (arith, t.long_q, feed-line.auto.1.1.1.1.1.0)
+shape_of-queue-then-block_at c = let some : c.args.i < length c.args.starts.now = omega (arith, c.requires.behind.some, lines-length c.args.starts.now c.args.ends.now c.requires.starts_len) in
+    let e = entered c.args.text.now (lines_of c.args.starts.now c.args.ends.now) c.args.i c.args.reading c.args.p c.args.queue.now c.args.openers.now c.args.labels.now c.requires.behind c.in-No.is c.requires.labels_in_bounds c.begin_line-out.result c.begin_line-out.ensures in
+    let t = c.loop-left.invariant (stands c.args.p c.args.queue.now c.args.openers.now c.args.labels.now) e in
+    omega (arith, t.long_q, c.feed_line-out.auto.1.1.1.1.1.0)
 
 pub shape_of-openers-then-block_at : goal.shape_of-openers-then-block_at
-shape_of-openers-then-block_at c = let args = c.args in
-    let pre = c.requires in
-    let enum_told = c.enum_told-1 in
-    let begin-line = c.begin_line-out in
-    let loop = c.loop-left in
-    let feed-line = c.feed_line-out in
-    let some : args.i < length args.starts.now = omega (arith, pre.1.0.some, lines-length args.starts.now args.ends.now pre.0) in
-    let e = entered args.text.now (lines_of args.starts.now args.ends.now) args.i args.reading args.p args.queue.now args.openers.now args.labels.now pre.1.0 enum_told.given.1 pre.1.1.0 begin-line.result begin-line.ensures in
-    let t = loop.invariant (stands args.p args.queue.now args.openers.now args.labels.now) e in
-    omega (arith, t.long_o, feed-line.auto.1.1.1.1.1.1.0)
+shape_of-openers-then-block_at c = let some : c.args.i < length c.args.starts.now = omega (arith, c.requires.behind.some, lines-length c.args.starts.now c.args.ends.now c.requires.starts_len) in
+    let e = entered c.args.text.now (lines_of c.args.starts.now c.args.ends.now) c.args.i c.args.reading c.args.p c.args.queue.now c.args.openers.now c.args.labels.now c.requires.behind c.in-No.is c.requires.labels_in_bounds c.begin_line-out.result c.begin_line-out.ensures in
+    let t = c.loop-left.invariant (stands c.args.p c.args.queue.now c.args.openers.now c.args.labels.now) e in
+    omega (arith, t.long_o, c.feed_line-out.auto.1.1.1.1.1.1.0)
 
 pub shape_of-labels-then-block_at : goal.shape_of-labels-then-block_at
-shape_of-labels-then-block_at c = let args = c.args in
-    let pre = c.requires in
-    let enum_told = c.enum_told-1 in
-    let begin-line = c.begin_line-out in
-    let loop = c.loop-left in
-    let feed-line = c.feed_line-out in
-    let some : args.i < length args.starts.now = omega (arith, pre.1.0.some, lines-length args.starts.now args.ends.now pre.0) in
-    let e = entered args.text.now (lines_of args.starts.now args.ends.now) args.i args.reading args.p args.queue.now args.openers.now args.labels.now pre.1.0 enum_told.given.1 pre.1.1.0 begin-line.result begin-line.ensures in
-    let t = loop.invariant (stands args.p args.queue.now args.openers.now args.labels.now) e in
-    omega (arith, t.long_l, feed-line.auto.1.1.1.1.1.1.1.0)
+shape_of-labels-then-block_at c = let some : c.args.i < length c.args.starts.now = omega (arith, c.requires.behind.some, lines-length c.args.starts.now c.args.ends.now c.requires.starts_len) in
+    let e = entered c.args.text.now (lines_of c.args.starts.now c.args.ends.now) c.args.i c.args.reading c.args.p c.args.queue.now c.args.openers.now c.args.labels.now c.requires.behind c.in-No.is c.requires.labels_in_bounds c.begin_line-out.result c.begin_line-out.ensures in
+    let t = c.loop-left.invariant (stands c.args.p c.args.queue.now c.args.openers.now c.args.labels.now) e in
+    omega (arith, t.long_l, c.feed_line-out.auto.1.1.1.1.1.1.1.0)
 
 pub returns-then-block_at : goal.returns-then-block_at
-returns-then-block_at c = let args = c.args in
-    let pre = c.requires in
-    let enum_told = c.enum_told-1 in
-    let begin-line = c.begin_line-out in
-    let loop = c.loop-left in
-    let feed-line = c.feed_line-out in
-    let refused = c.refused-1 in
-    let block_at = c.block_at in
-    let if1 = c.if-block_at in
-    let some : args.i < length args.starts.now = omega (arith, pre.1.0.some, lines-length args.starts.now args.ends.now pre.0) in
-    let e = entered args.text.now (lines_of args.starts.now args.ends.now) args.i args.reading args.p args.queue.now args.openers.now args.labels.now pre.1.0 enum_told.given.1 pre.1.1.0 begin-line.result begin-line.ensures in
-    let t = loop.invariant (stands args.p args.queue.now args.openers.now args.labels.now) e in
-    walks_block args.text.now (lines_of args.starts.now args.ends.now) args.i args.reading (stands args.p args.queue.now args.openers.now args.labels.now) args.queue.now args.openers.now args.labels.now e.behind loop.queue loop.openers loop.labels loop.out loop.left t _ (lines_at args.starts.now args.ends.now args.i some (omega (arith, some, pre.0))) feed-line.result feed-line.new.1.1.1.1.1.0 feed-line.new.1.1.1.1.1.1.0 feed-line.new.1.1.1.1.1.1.1.0 feed-line.ensures refused.given.0.0 refused.given.1 (sym block_at.ensures ∙ if1.true)
+returns-then-block_at c = let some : c.args.i < length c.args.starts.now = omega (arith, c.requires.behind.some, lines-length c.args.starts.now c.args.ends.now c.requires.starts_len) in
+    let e = entered c.args.text.now (lines_of c.args.starts.now c.args.ends.now) c.args.i c.args.reading c.args.p c.args.queue.now c.args.openers.now c.args.labels.now c.requires.behind c.in-No.is c.requires.labels_in_bounds c.begin_line-out.result c.begin_line-out.ensures in
+    let t = c.loop-left.invariant (stands c.args.p c.args.queue.now c.args.openers.now c.args.labels.now) e in
+    walks_block c.args.text.now (lines_of c.args.starts.now c.args.ends.now) c.args.i c.args.reading (stands c.args.p c.args.queue.now c.args.openers.now c.args.labels.now) c.args.queue.now c.args.openers.now c.args.labels.now e.behind c.loop-left.queue c.loop-left.openers c.loop-left.labels c.loop-left.out c.loop-left.left t _ (lines_at c.args.starts.now c.args.ends.now c.args.i some (omega (arith, some, c.requires.starts_len))) c.feed_line-out.result c.feed_line-out.new.1.1.1.1.1.0 c.feed_line-out.new.1.1.1.1.1.1.0 c.feed_line-out.new.1.1.1.1.1.1.1.0 c.feed_line-out.ensures c.in-At.at c.in-At.is (sym c.block_at.ensures ∙ c.if-block_at.true)
 
 pub pass_brace-out-requires : goal.pass_brace-out-requires
-pass_brace-out-requires c = let args = c.args in
-    let pre = c.requires in
-    let enum_told = c.enum_told-1 in
-    let begin-line = c.begin_line-out in
-    let loop = c.loop-left in
-    let feed-line = c.feed_line-out in
-    let refused = c.refused-1 in
-    let block_at = c.block_at in
-    let if1 = c.if-block_at in
-    let some : args.i < length args.starts.now = omega (arith, pre.1.0.some, lines-length args.starts.now args.ends.now pre.0) in
-    let e = entered args.text.now (lines_of args.starts.now args.ends.now) args.i args.reading args.p args.queue.now args.openers.now args.labels.now pre.1.0 enum_told.given.1 pre.1.1.0 begin-line.result begin-line.ensures in
-    let t = loop.invariant (stands args.p args.queue.now args.openers.now args.labels.now) e in
-    walks-brace args.text.now (lines_of args.starts.now args.ends.now) args.i args.reading (stands args.p args.queue.now args.openers.now args.labels.now) args.queue.now args.openers.now args.labels.now e.behind loop.queue loop.openers loop.labels loop.out loop.left t _ (lines_at args.starts.now args.ends.now args.i some (omega (arith, some, pre.0))) feed-line.result feed-line.new.1.1.1.1.1.0 feed-line.new.1.1.1.1.1.1.0 feed-line.new.1.1.1.1.1.1.1.0 feed-line.ensures refused.given.0.0 refused.given.1 (sym block_at.ensures ∙ if1.false) feed-line.auto.1.1.1.1.1.0
+pass_brace-out-requires c = let some : c.args.i < length c.args.starts.now = omega (arith, c.requires.behind.some, lines-length c.args.starts.now c.args.ends.now c.requires.starts_len) in
+    let e = entered c.args.text.now (lines_of c.args.starts.now c.args.ends.now) c.args.i c.args.reading c.args.p c.args.queue.now c.args.openers.now c.args.labels.now c.requires.behind c.in-No.is c.requires.labels_in_bounds c.begin_line-out.result c.begin_line-out.ensures in
+    let t = c.loop-left.invariant (stands c.args.p c.args.queue.now c.args.openers.now c.args.labels.now) e in
+    walks-brace c.args.text.now (lines_of c.args.starts.now c.args.ends.now) c.args.i c.args.reading (stands c.args.p c.args.queue.now c.args.openers.now c.args.labels.now) c.args.queue.now c.args.openers.now c.args.labels.now e.behind c.loop-left.queue c.loop-left.openers c.loop-left.labels c.loop-left.out c.loop-left.left t _ (lines_at c.args.starts.now c.args.ends.now c.args.i some (omega (arith, some, c.requires.starts_len))) c.feed_line-out.result c.feed_line-out.new.1.1.1.1.1.0 c.feed_line-out.new.1.1.1.1.1.1.0 c.feed_line-out.new.1.1.1.1.1.1.1.0 c.feed_line-out.ensures c.in-At.at c.in-At.is (sym c.block_at.ensures ∙ c.if-block_at.false) c.feed_line-out.auto.1.1.1.1.1.0
 
 pub overflow_sub-left-in-loop-left : goal.overflow_sub-left-in-loop-left
-overflow_sub-left-in-loop-left c = let loop-test = c.loop-left-test in
-    omega (arith, loop-test.true)
+overflow_sub-left-in-loop-left c = omega (arith, c.loop-left-test.true)
 
 pub loop-left-smaller : goal.loop-left-smaller
-loop-left-smaller c = let loop-test = c.loop-left-test in
-    omega (arith, loop-test.true)
+loop-left-smaller c = omega (arith, c.loop-left-test.true)
 
 pub loop-left-preserved : goal.loop-left-preserved
-loop-left-preserved c = let args = c.args in
-    let pre = c.requires in
-    let loop = c.loop-left in
-    let feed-line = c.feed_line-out in
-    let refused = c.refused-1 in
-    let block_at = c.block_at in
-    let if1 = c.if-block_at in
-    let loop-test = c.loop-left-test in
-    let pass-brace = c.pass_brace-out in
-    let some : args.i < length args.starts.now = omega (arith, pre.1.0.some, lines-length args.starts.now args.ends.now pre.0) in
-    λ s e. walks_next args.text.now (lines_of args.starts.now args.ends.now) args.i args.reading s args.queue.now args.openers.now args.labels.now e.behind loop.queue loop.openers loop.labels loop.out loop.left (loop.invariant s e) _ (lines_at args.starts.now args.ends.now args.i some (omega (arith, some, pre.0))) feed-line.result feed-line.new.1.1.1.1.1.0 feed-line.new.1.1.1.1.1.1.0 feed-line.new.1.1.1.1.1.1.1.0 feed-line.ensures refused.given.0.0 refused.given.1 (sym block_at.ensures ∙ if1.false) loop-test.true pass-brace.result pass-brace.new.1.1.1.1.1.0 (pass-brace.ensures feed-line.new.1.1.1.1.1.1.0) feed-line.auto.1.1.1.1.1.0 feed-line.auto.1.1.1.1.1.1.0 feed-line.auto.1.1.1.1.1.1.1.0 pass-brace.auto.1.1.1.1.1.0
+loop-left-preserved c = let some : c.args.i < length c.args.starts.now = omega (arith, c.requires.behind.some, lines-length c.args.starts.now c.args.ends.now c.requires.starts_len) in
+    λ s e. walks_next c.args.text.now (lines_of c.args.starts.now c.args.ends.now) c.args.i c.args.reading s c.args.queue.now c.args.openers.now c.args.labels.now e.behind c.loop-left.queue c.loop-left.openers c.loop-left.labels c.loop-left.out c.loop-left.left (c.loop-left.invariant s e) _ (lines_at c.args.starts.now c.args.ends.now c.args.i some (omega (arith, some, c.requires.starts_len))) c.feed_line-out.result c.feed_line-out.new.1.1.1.1.1.0 c.feed_line-out.new.1.1.1.1.1.1.0 c.feed_line-out.new.1.1.1.1.1.1.1.0 c.feed_line-out.ensures c.in-At.at c.in-At.is (sym c.block_at.ensures ∙ c.if-block_at.false) c.loop-left-test.true c.pass_brace-out.result c.pass_brace-out.new.1.1.1.1.1.0 (c.pass_brace-out.ensures c.feed_line-out.new.1.1.1.1.1.1.0) c.feed_line-out.auto.1.1.1.1.1.0 c.feed_line-out.auto.1.1.1.1.1.1.0 c.feed_line-out.auto.1.1.1.1.1.1.1.0 c.pass_brace-out.auto.1.1.1.1.1.0
 
 pub shape_of-queue : goal.shape_of-queue
-shape_of-queue c = let args = c.args in
-    let pre = c.requires in
-    let enum_told = c.enum_told-1 in
-    let begin-line = c.begin_line-out in
-    let loop = c.loop-left in
-    let some : args.i < length args.starts.now = omega (arith, pre.1.0.some, lines-length args.starts.now args.ends.now pre.0) in
-    let e = entered args.text.now (lines_of args.starts.now args.ends.now) args.i args.reading args.p args.queue.now args.openers.now args.labels.now pre.1.0 enum_told.given.1 pre.1.1.0 begin-line.result begin-line.ensures in
-    let t = loop.invariant (stands args.p args.queue.now args.openers.now args.labels.now) e in
+shape_of-queue c = let some : c.args.i < length c.args.starts.now = omega (arith, c.requires.behind.some, lines-length c.args.starts.now c.args.ends.now c.requires.starts_len) in
+    let e = entered c.args.text.now (lines_of c.args.starts.now c.args.ends.now) c.args.i c.args.reading c.args.p c.args.queue.now c.args.openers.now c.args.labels.now c.requires.behind c.in-No.is c.requires.labels_in_bounds c.begin_line-out.result c.begin_line-out.ensures in
+    let t = c.loop-left.invariant (stands c.args.p c.args.queue.now c.args.openers.now c.args.labels.now) e in
     t.long_q
 
 pub shape_of-openers : goal.shape_of-openers
-shape_of-openers c = let args = c.args in
-    let pre = c.requires in
-    let enum_told = c.enum_told-1 in
-    let begin-line = c.begin_line-out in
-    let loop = c.loop-left in
-    let some : args.i < length args.starts.now = omega (arith, pre.1.0.some, lines-length args.starts.now args.ends.now pre.0) in
-    let e = entered args.text.now (lines_of args.starts.now args.ends.now) args.i args.reading args.p args.queue.now args.openers.now args.labels.now pre.1.0 enum_told.given.1 pre.1.1.0 begin-line.result begin-line.ensures in
-    let t = loop.invariant (stands args.p args.queue.now args.openers.now args.labels.now) e in
+shape_of-openers c = let some : c.args.i < length c.args.starts.now = omega (arith, c.requires.behind.some, lines-length c.args.starts.now c.args.ends.now c.requires.starts_len) in
+    let e = entered c.args.text.now (lines_of c.args.starts.now c.args.ends.now) c.args.i c.args.reading c.args.p c.args.queue.now c.args.openers.now c.args.labels.now c.requires.behind c.in-No.is c.requires.labels_in_bounds c.begin_line-out.result c.begin_line-out.ensures in
+    let t = c.loop-left.invariant (stands c.args.p c.args.queue.now c.args.openers.now c.args.labels.now) e in
     t.long_o
 
 pub shape_of-labels : goal.shape_of-labels
-shape_of-labels c = let args = c.args in
-    let pre = c.requires in
-    let enum_told = c.enum_told-1 in
-    let begin-line = c.begin_line-out in
-    let loop = c.loop-left in
-    let some : args.i < length args.starts.now = omega (arith, pre.1.0.some, lines-length args.starts.now args.ends.now pre.0) in
-    let e = entered args.text.now (lines_of args.starts.now args.ends.now) args.i args.reading args.p args.queue.now args.openers.now args.labels.now pre.1.0 enum_told.given.1 pre.1.1.0 begin-line.result begin-line.ensures in
-    let t = loop.invariant (stands args.p args.queue.now args.openers.now args.labels.now) e in
+shape_of-labels c = let some : c.args.i < length c.args.starts.now = omega (arith, c.requires.behind.some, lines-length c.args.starts.now c.args.ends.now c.requires.starts_len) in
+    let e = entered c.args.text.now (lines_of c.args.starts.now c.args.ends.now) c.args.i c.args.reading c.args.p c.args.queue.now c.args.openers.now c.args.labels.now c.requires.behind c.in-No.is c.requires.labels_in_bounds c.begin_line-out.result c.begin_line-out.ensures in
+    let t = c.loop-left.invariant (stands c.args.p c.args.queue.now c.args.openers.now c.args.labels.now) e in
     t.long_l
 
 pub returns : goal.returns
-returns c = let args = c.args in
-    let pre = c.requires in
-    let enum_told = c.enum_told-1 in
-    let begin-line = c.begin_line-out in
-    let loop = c.loop-left in
-    let loop-test = c.loop-left-test in
-    let some : args.i < length args.starts.now = omega (arith, pre.1.0.some, lines-length args.starts.now args.ends.now pre.0) in
-    let e = entered args.text.now (lines_of args.starts.now args.ends.now) args.i args.reading args.p args.queue.now args.openers.now args.labels.now pre.1.0 enum_told.given.1 pre.1.1.0 begin-line.result begin-line.ensures in
-    let t = loop.invariant (stands args.p args.queue.now args.openers.now args.labels.now) e in
-    walks-last args.text.now (lines_of args.starts.now args.ends.now) args.i args.reading (stands args.p args.queue.now args.openers.now args.labels.now) args.queue.now args.openers.now args.labels.now e.behind loop.queue loop.openers loop.labels loop.out loop.left t (omega (arith, loop-test.false))
+returns c = let some : c.args.i < length c.args.starts.now = omega (arith, c.requires.behind.some, lines-length c.args.starts.now c.args.ends.now c.requires.starts_len) in
+    let e = entered c.args.text.now (lines_of c.args.starts.now c.args.ends.now) c.args.i c.args.reading c.args.p c.args.queue.now c.args.openers.now c.args.labels.now c.requires.behind c.in-No.is c.requires.labels_in_bounds c.begin_line-out.result c.begin_line-out.ensures in
+    let t = c.loop-left.invariant (stands c.args.p c.args.queue.now c.args.openers.now c.args.labels.now) e in
+    walks-last c.args.text.now (lines_of c.args.starts.now c.args.ends.now) c.args.i c.args.reading (stands c.args.p c.args.queue.now c.args.openers.now c.args.labels.now) c.args.queue.now c.args.openers.now c.args.labels.now e.behind c.loop-left.queue c.loop-left.openers c.loop-left.labels c.loop-left.out c.loop-left.left t (omega (arith, c.loop-left-test.false))

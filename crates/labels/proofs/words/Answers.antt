@@ -1,6 +1,7 @@
 -- `labels::words` meets its contract. At the loop's head the events from i on are left; the measure is how many these are.
 use Prim.Native.Nat.{◌-◌}
 use mathlib.Core.Path.{refl, ◌∙◌}
+use mathlib.Core.List.{[]}
 use mathlib.Core.Bool.{true}
 use native.Mathlib.Omega.{arith}
 use borrow.Author.Tests.{not-true, not-false}
@@ -12,34 +13,27 @@ use Rattle.labels.proofs.Parts.{words-turn, words_last}
 use Rattle.labels.proofs.words.Goals as goal
 
 pub loop-i-init : goal.loop-i-init
-loop-i-init c =
-    let a = c.args in (
+loop-i-init c = (
       refl,
-      filled_none a.labels.now a.used (λ y. words_of a.text.now (drop a.from (events a.n a.queue.now))) true c.requires.used_in_bounds refl,
+      filled_none c.args.labels.now c.args.used (λ y. words_of c.args.text.now (drop c.args.from (events c.args.n c.args.queue.now))) true c.requires.used_in_bounds refl,
     )
 
 pub word-built-requires : goal.word-built-requires
-word-built-requires c = let l = c.loop-i in
-    omega (arith, l.invariant.1.room, l.invariant.1.length_kept)
+word-built-requires c = omega (arith, c.loop-i.invariant.1.room, c.loop-i.invariant.1.length_kept)
 
 pub shape_of-labels-then-not-built : goal.shape_of-labels-then-not-built
 shape_of-labels-then-not-built c = c.word-built.ensures.length_kept ∙ c.loop-i.invariant.1.length_kept
 
 pub returns-then-not-built : goal.returns-then-not-built
-returns-then-not-built c = let a = c.args in
-    let l = c.loop-i in
-    let v = c.event_at-e in
-    filled-stuck
-    (words-turn a.text.now a.queue.now a.n l.i l.invariant.1 v.result c.loop-i-test.true l.invariant.0 v.ensures
+returns-then-not-built c = filled-stuck
+    (words-turn c.args.text.now c.args.queue.now c.args.n c.loop-i.i c.loop-i.invariant.1 c.event_at-e.result c.loop-i-test.true c.loop-i.invariant.0 c.event_at-e.ensures
     c.word-built.ensures)
     (λ y. []) _ (not-true _ c.if-not-built.true) (not-true _ c.if-not-built.true)
 
 pub loop-i-preserved : goal.loop-i-preserved
-loop-i-preserved c = let a = c.args in
-    let l = c.loop-i in
-    let v = c.event_at-e in (
+loop-i-preserved c = (
       not-false _ c.if-not-built.false,
-      words-turn a.text.now a.queue.now a.n l.i l.invariant.1 v.result c.loop-i-test.true l.invariant.0 v.ensures
+      words-turn c.args.text.now c.args.queue.now c.args.n c.loop-i.i c.loop-i.invariant.1 c.event_at-e.result c.loop-i-test.true c.loop-i.invariant.0 c.event_at-e.ensures
           c.word-built.ensures,
     )
 
@@ -47,6 +41,4 @@ pub shape_of-labels : goal.shape_of-labels
 shape_of-labels c = c.loop-i.invariant.1.length_kept
 
 pub returns : goal.returns
-returns c = let a = c.args in
-    let l = c.loop-i in
-    words_last a.text.now a.queue.now a.n l.i l.invariant.1 c.loop-i-test.false
+returns c = words_last c.args.text.now c.args.queue.now c.args.n c.loop-i.i c.loop-i.invariant.1 c.loop-i-test.false

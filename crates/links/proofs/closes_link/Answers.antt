@@ -5,34 +5,20 @@ use Rattle.links.proofs.Linking.{link-step}
 use Rattle.links.proofs.closes_link.Goals as goal
 
 pub set_kind-requires : goal.set_kind-requires
-set_kind-requires c = let pre = c.requires in
-    omega (arith, pre)
+set_kind-requires c = omega (arith, c.requires)
 
 pub overflow_sub-event : goal.overflow_sub-event
-overflow_sub-event c = let pre = c.requires in
-    omega (arith, pre)
+overflow_sub-event c = omega (arith, c.requires)
 
 pub overflow_add-t-2 : goal.overflow_add-t-2
-overflow_add-t-2 c = let pre = c.requires in
-    omega (arith, pre)
+overflow_add-t-2 c = omega (arith, c.requires)
 
 pub set_kind_to-requires : goal.set_kind_to-requires
-set_kind_to-requires c = let pre = c.requires in
-    let set-kind = c.set_kind in
-    omega (arith, pre, set-kind.auto.0)
+set_kind_to-requires c = omega (arith, c.requires, c.set_kind.auto.queue)
 
 pub overflow_add-next : goal.overflow_add-next
-overflow_add-next c = let pre = c.requires in
-    omega (arith, pre)
+overflow_add-next c = omega (arith, c.requires)
 
 pub returns : goal.returns
-returns c rules os line = let args = c.args in
-    let pre = c.requires in
-    let place_at = c.place_at in
-    let label_of = c.label_of-label in
-    let set-kind = c.set_kind in
-    let set-kind-to = c.set_kind_to in
-    let place-at2 = c.place_at-2 in
-    let no_str = c.no_str-none in
-    link-step rules args.text.now args.m line args.h args.t args.o args.p args.queue.now os args.labels.now pre.1.1.1.1.0
-    place_at.result place_at.ensures label_of.result.home label_of.result.labels label_of.result.fits label_of.new.1.1.1.1.0 label_of.ensures.same label_of.ensures.room set-kind.new.0 set-kind-to.new.0 place-at2.result place-at2.ensures set-kind.ensures set-kind-to.ensures no_str.result no_str.ensures
+returns c rules os line = link-step rules c.args.text.now c.args.m line c.args.h c.args.t c.args.o c.args.p c.args.queue.now os c.args.labels.now c.requires.event_lt_events
+    c.place_at.result c.place_at.ensures c.label_of-label.result.home c.label_of-label.result.labels c.label_of-label.result.fits c.label_of-label.new.1.1.1.1.0 c.label_of-label.ensures.same c.label_of-label.ensures.room c.set_kind.new.queue c.set_kind_to.new.queue c.place_at-2.result c.place_at-2.ensures c.set_kind.ensures c.set_kind_to.ensures c.no_str-none.result c.no_str-none.ensures

@@ -7,22 +7,13 @@ use Rattle.outside.proofs.Alone.{alone}
 use Rattle.outside.proofs.backticks.Goals as goal
 
 pub opens_verbatim-requires : goal.opens_verbatim-requires
-opens_verbatim-requires c = let pre = c.requires in
-    let args = c.args in
-    let r = pre.0 in
-    let d = dollars-ended args.p args.queue.now (args.m.base + args.h.from) pre.1 in
-    (omega (arith, r.long), (omega (arith, r.within, r.small), (omega (arith, r.room, r.long, r.within), (d.0, d.1))))
+opens_verbatim-requires c = let d = dollars-ended c.args.p c.args.queue.now (c.args.m.base + c.args.h.from) c.requires.ended in
+    (omega (arith, c.requires.token_ready.long), (omega (arith, c.requires.token_ready.within, c.requires.token_ready.small), (omega (arith, c.requires.token_ready.room, c.requires.token_ready.long, c.requires.token_ready.within), (d.0, d.1))))
 -- asked: ['from_le_to', 'to_bound', 'room', 'dollars', 'from_bound']
 
 pub returns-then-h-le-LONGEST_RUN : goal.returns-then-h-le-LONGEST_RUN
-returns-then-h-le-LONGEST_RUN c x o = let args = c.args in
-    let opens_verbatim = c.opens_verbatim in
-    let if1 = c.if-h-le-LONGEST_RUN in
-    run-opens x args.m args.line.now args.h args.p args.queue.now o opens_verbatim.result opens_verbatim.new.1.1.1.0 if1.true (opens_verbatim.ensures o args.line.now)
+returns-then-h-le-LONGEST_RUN c x o = run-opens x c.args.m c.args.line.now c.args.h c.args.p c.args.queue.now o c.opens_verbatim.result c.opens_verbatim.new.1.1.1.0 c.if-h-le-LONGEST_RUN.true (c.opens_verbatim.ensures o c.args.line.now)
 
 pub returns : goal.returns
-returns c x o = let args = c.args in
-    let put = c.put in
-    let if1 = c.if-h-le-LONGEST_RUN in
-    run_long x args.m args.line.now args.h args.p args.queue.now o put.result put.new.1.1.1.1.1.0 if1.false
-    (alone x (viewed args.m args.line.now) args.h args.p args.queue.now o put.result put.new.1.1.1.1.1.0 (put.ensures o))
+returns c x o = run_long x c.args.m c.args.line.now c.args.h c.args.p c.args.queue.now o c.put.result c.put.new.1.1.1.1.1.0 c.if-h-le-LONGEST_RUN.false
+    (alone x (viewed c.args.m c.args.line.now) c.args.h c.args.p c.args.queue.now o c.put.result c.put.new.1.1.1.1.1.0 (c.put.ensures o))

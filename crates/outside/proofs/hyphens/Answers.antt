@@ -5,14 +5,8 @@ use Rattle.outside.proofs.Alone.{alone}
 use Rattle.outside.proofs.hyphens.Goals as goal
 
 pub returns-then-h-lt2 : goal.returns-then-h-lt2
-returns-then-h-lt2 c x o = let args = c.args in
-    let put = c.put in
-    let if1 = c.if-h-lt2 in
-    hyphen-one x args.m args.line.now args.h args.p args.queue.now o put.result put.new.1.1.1.1.1.0 if1.true
-    (alone x (viewed args.m args.line.now) args.h args.p args.queue.now o put.result put.new.1.1.1.1.1.0 (put.ensures o))
+returns-then-h-lt2 c x o = hyphen-one x c.args.m c.args.line.now c.args.h c.args.p c.args.queue.now o c.put.result c.put.new.1.1.1.1.1.0 c.if-h-lt2.true
+    (alone x (viewed c.args.m c.args.line.now) c.args.h c.args.p c.args.queue.now o c.put.result c.put.new.1.1.1.1.1.0 (c.put.ensures o))
 
 pub returns : goal.returns
-returns c x o = let args = c.args in
-    let dashes = c.dashes in
-    let if1 = c.if-h-lt2 in
-    hyphens-many x args.m args.line.now args.h args.p args.queue.now o dashes.result dashes.new.1.1.1.0 if1.false (dashes.ensures o)
+returns c x o = hyphens-many x c.args.m c.args.line.now c.args.h c.args.p c.args.queue.now o c.dashes.result c.dashes.new.1.1.1.0 c.if-h-lt2.false (c.dashes.ensures o)

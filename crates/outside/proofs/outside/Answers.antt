@@ -7,107 +7,58 @@ use Rattle.outside.proofs.Alone.{alone}
 use Rattle.outside.proofs.outside.Goals as goal
 
 pub backticks-requires : goal.backticks-requires
-backticks-requires c = let pre = c.requires in
-    let args = c.args in
-    (token-ready args.line.now args.m args.h args.p args.queue.now args.openers.now pre.0, pre.1.1.0)
--- asked: ['token_ready', 'ended']
+backticks-requires c = record { token_ready = token-ready c.args.line.now c.args.m c.args.h c.args.p c.args.queue.now c.args.openers.now c.requires.ready; ended = c.requires.ended }
 
 pub parse_autolink-requires : goal.parse_autolink-requires
-parse_autolink-requires c = let pre = c.requires in
-    let args = c.args in
-    (token-ready args.line.now args.m args.h args.p args.queue.now args.openers.now pre.0, pre.1.1.1)
--- asked: ['token_ready', 'ruled']
+parse_autolink-requires c = record { token_ready = token-ready c.args.line.now c.args.m c.args.h c.args.p c.args.queue.now c.args.openers.now c.requires.ready; ruled = c.requires.ruled }
 
 pub parse_symbol-requires : goal.parse_symbol-requires
-parse_symbol-requires c = let pre = c.requires in
-    let args = c.args in
-    (token-ready args.line.now args.m args.h args.p args.queue.now args.openers.now pre.0, pre.1.1.1)
--- asked: ['token_ready', 'ruled']
+parse_symbol-requires c = record { token_ready = token-ready c.args.line.now c.args.m c.args.h c.args.p c.args.queue.now c.args.openers.now c.requires.ready; ruled = c.requires.ruled }
 
 pub hyphens-requires : goal.hyphens-requires
-hyphens-requires c = let pre = c.requires in
-    let args = c.args in
-    token-ready args.line.now args.m args.h args.p args.queue.now args.openers.now pre.0
+hyphens-requires c = token-ready c.args.line.now c.args.m c.args.h c.args.p c.args.queue.now c.args.openers.now c.requires.ready
 
 pub parse_container-requires : goal.parse_container-requires
-parse_container-requires c = let pre = c.requires in
-    (pre.0, (pre.1.0, pre.1.1.1))
--- asked: ['ready', 'label_room', 'ruled']
+parse_container-requires c = record { ready = c.requires.ready; label_room = c.requires.label_room; ruled = c.requires.ruled }
 
 pub returns-in-Backticks : goal.returns-in-Backticks
-returns-in-Backticks c rules = let args = c.args in
-    let pre = c.requires in
-    let backticks = c.backticks in
-    let is = c.enum_told-1 in
-    let x = sheet_of rules args.text.now args.labels.now in
-    by-role x (viewed args.m args.line.now) (here args.h args.p) args.p args.queue.now args.openers.now args.labels.now backticks.result backticks.new.1.1.1.1.0 args.openers.now pre.1.0.labels args.role _ is.given.1
-    (backticks.ensures x args.openers.now)
+returns-in-Backticks c rules = let x = sheet_of rules c.args.text.now c.args.labels.now in
+    by-role x (viewed c.args.m c.args.line.now) (here c.args.h c.args.p) c.args.p c.args.queue.now c.args.openers.now c.args.labels.now c.backticks.result c.backticks.new.1.1.1.1.0 c.args.openers.now c.requires.label_room.labels c.args.role _ c.in-Backticks.is
+    (c.backticks.ensures x c.args.openers.now)
 
 pub returns-in-Brace : goal.returns-in-Brace
-returns-in-Brace c rules = let args = c.args in
-    let pre = c.requires in
-    let place_at = c.place_at in
-    let refusing = c.refusing in
-    let is = c.enum_told-in-Brace-1 in
-    as-brace rules args.text.now args.m args.line.now args.h args.p args.queue.now args.openers.now args.labels.now refusing.result pre.1.0.labels place_at.result place_at.ensures refusing.ensures args.role is.given.1
+returns-in-Brace c rules = as-brace rules c.args.text.now c.args.m c.args.line.now c.args.h c.args.p c.args.queue.now c.args.openers.now c.args.labels.now c.refusing.result c.requires.label_room.labels c.place_at.result c.place_at.ensures c.refusing.ensures c.args.role c.in-Brace.is
 
 pub returns-in-Lt : goal.returns-in-Lt
-returns-in-Lt c rules = let args = c.args in
-    let pre = c.requires in
-    let parse-autolink = c.parse_autolink in
-    let is = c.enum_told-in-Lt-1 in
-    let x = sheet_of rules args.text.now args.labels.now in
-    by-role x (viewed args.m args.line.now) (here args.h args.p) args.p args.queue.now args.openers.now args.labels.now parse-autolink.result parse-autolink.new.1.1.1.1.0 args.openers.now pre.1.0.labels args.role _ is.given.1
-    (parse-autolink.ensures x args.openers.now)
+returns-in-Lt c rules = let x = sheet_of rules c.args.text.now c.args.labels.now in
+    by-role x (viewed c.args.m c.args.line.now) (here c.args.h c.args.p) c.args.p c.args.queue.now c.args.openers.now c.args.labels.now c.parse_autolink.result c.parse_autolink.new.1.1.1.1.0 c.args.openers.now c.requires.label_room.labels c.args.role _ c.in-Lt.is
+    (c.parse_autolink.ensures x c.args.openers.now)
 
 pub returns-in-Colon : goal.returns-in-Colon
-returns-in-Colon c rules = let args = c.args in
-    let pre = c.requires in
-    let parse-symbol = c.parse_symbol in
-    let is = c.enum_told-in-Colon-1 in
-    let x = sheet_of rules args.text.now args.labels.now in
-    by-role x (viewed args.m args.line.now) (here args.h args.p) args.p args.queue.now args.openers.now args.labels.now parse-symbol.result parse-symbol.new.1.1.1.1.0 args.openers.now pre.1.0.labels args.role _ is.given.1
-    (parse-symbol.ensures x args.openers.now)
+returns-in-Colon c rules = let x = sheet_of rules c.args.text.now c.args.labels.now in
+    by-role x (viewed c.args.m c.args.line.now) (here c.args.h c.args.p) c.args.p c.args.queue.now c.args.openers.now c.args.labels.now c.parse_symbol.result c.parse_symbol.new.1.1.1.1.0 c.args.openers.now c.requires.label_room.labels c.args.role _ c.in-Colon.is
+    (c.parse_symbol.ensures x c.args.openers.now)
 
 pub returns-in-Bracket : goal.returns-in-Bracket
-returns-in-Bracket c rules = let args = c.args in
-    let pre = c.requires in
-    let parse-footnote-reference = c.parse_footnote_reference in
-    let is = c.enum_told-in-Bracket-1 in
-    let x = sheet_of rules args.text.now args.labels.now in
-    by-role x (viewed args.m args.line.now) (here args.h args.p) args.p args.queue.now args.openers.now args.labels.now parse-footnote-reference.result parse-footnote-reference.new.1.1.1.1.0 parse-footnote-reference.new.1.1.1.1.1.0 pre.1.0.labels args.role _ is.given.1
-    (parse-footnote-reference.ensures x)
+returns-in-Bracket c rules = let x = sheet_of rules c.args.text.now c.args.labels.now in
+    by-role x (viewed c.args.m c.args.line.now) (here c.args.h c.args.p) c.args.p c.args.queue.now c.args.openers.now c.args.labels.now c.parse_footnote_reference.result c.parse_footnote_reference.new.1.1.1.1.0 c.parse_footnote_reference.new.1.1.1.1.1.0 c.requires.label_room.labels c.args.role _ c.in-Bracket.is
+    (c.parse_footnote_reference.ensures x)
 
 pub returns-in-Paren : goal.returns-in-Paren
-returns-in-Paren c rules = let args = c.args in
-    let pre = c.requires in
-    let put = c.put in
-    let is = c.enum_told-in-Paren-1 in
-    let x = sheet_of rules args.text.now args.labels.now in
-    by-role x (viewed args.m args.line.now) (here args.h args.p) args.p args.queue.now args.openers.now args.labels.now put.result put.new.1.1.1.1.1.0 args.openers.now pre.1.0.labels args.role _ is.given.1
-    (paren x args.m args.line.now args.h args.p args.queue.now args.openers.now put.result put.new.1.1.1.1.1.0
-    (alone x (viewed args.m args.line.now) args.h args.p args.queue.now args.openers.now put.result put.new.1.1.1.1.1.0 (put.ensures args.openers.now)))
+returns-in-Paren c rules = let x = sheet_of rules c.args.text.now c.args.labels.now in
+    by-role x (viewed c.args.m c.args.line.now) (here c.args.h c.args.p) c.args.p c.args.queue.now c.args.openers.now c.args.labels.now c.put.result c.put.new.1.1.1.1.1.0 c.args.openers.now c.requires.label_room.labels c.args.role _ c.in-Paren.is
+    (paren x c.args.m c.args.line.now c.args.h c.args.p c.args.queue.now c.args.openers.now c.put.result c.put.new.1.1.1.1.1.0
+    (alone x (viewed c.args.m c.args.line.now) c.args.h c.args.p c.args.queue.now c.args.openers.now c.put.result c.put.new.1.1.1.1.1.0 (c.put.ensures c.args.openers.now)))
 
 pub returns-in-Periods : goal.returns-in-Periods
-returns-in-Periods c rules = let args = c.args in
-    let pre = c.requires in
-    let dots = c.dots in
-    let is = c.enum_told-in-Periods-1 in
-    let x = sheet_of rules args.text.now args.labels.now in
-    by-role x (viewed args.m args.line.now) (here args.h args.p) args.p args.queue.now args.openers.now args.labels.now dots.result dots.new.1.1.1.1.0 args.openers.now pre.1.0.labels args.role _ is.given.1
-    (periods x args.m args.line.now args.h args.p args.queue.now args.openers.now dots.result dots.new.1.1.1.1.0 (dots.ensures args.openers.now))
+returns-in-Periods c rules = let x = sheet_of rules c.args.text.now c.args.labels.now in
+    by-role x (viewed c.args.m c.args.line.now) (here c.args.h c.args.p) c.args.p c.args.queue.now c.args.openers.now c.args.labels.now c.dots.result c.dots.new.1.1.1.1.0 c.args.openers.now c.requires.label_room.labels c.args.role _ c.in-Periods.is
+    (periods x c.args.m c.args.line.now c.args.h c.args.p c.args.queue.now c.args.openers.now c.dots.result c.dots.new.1.1.1.1.0 (c.dots.ensures c.args.openers.now))
 
 pub returns-in-Hyphens : goal.returns-in-Hyphens
-returns-in-Hyphens c rules = let args = c.args in
-    let pre = c.requires in
-    let hyphens = c.hyphens in
-    let is = c.enum_told-in-Hyphens-1 in
-    let x = sheet_of rules args.text.now args.labels.now in
-    by-role x (viewed args.m args.line.now) (here args.h args.p) args.p args.queue.now args.openers.now args.labels.now hyphens.result hyphens.new.1.1.1.1.0 args.openers.now pre.1.0.labels args.role _ is.given.1
-    (hyphens.ensures x args.openers.now)
+returns-in-Hyphens c rules = let x = sheet_of rules c.args.text.now c.args.labels.now in
+    by-role x (viewed c.args.m c.args.line.now) (here c.args.h c.args.p) c.args.p c.args.queue.now c.args.openers.now c.args.labels.now c.hyphens.result c.hyphens.new.1.1.1.1.0 c.args.openers.now c.requires.label_room.labels c.args.role _ c.in-Hyphens.is
+    (c.hyphens.ensures x c.args.openers.now)
 
 pub returns-in-Other : goal.returns-in-Other
-returns-in-Other c rules = let args = c.args in
-    let parse-container = c.parse_container in
-    let role = c.role-1 in
-    as-other (sheet_of rules args.text.now args.labels.now) (viewed args.m args.line.now) (here args.h args.p) args.p args.queue.now args.openers.now args.labels.now parse-container.result parse-container.new.1.1.1.1.1.1.0 parse-container.new.1.1.1.1.1.1.1.0 parse-container.new.1.1.1.1.1.1.1.1.0 args.role _ role.given.1 (parse-container.ensures rules)
+returns-in-Other c rules = as-other (sheet_of rules c.args.text.now c.args.labels.now) (viewed c.args.m c.args.line.now) (here c.args.h c.args.p) c.args.p c.args.queue.now c.args.openers.now c.args.labels.now c.parse_container.result c.parse_container.new.1.1.1.1.1.1.0 c.parse_container.new.1.1.1.1.1.1.1.0 c.parse_container.new.1.1.1.1.1.1.1.1.0 c.args.role _ c.in-Other.is (c.parse_container.ensures rules)

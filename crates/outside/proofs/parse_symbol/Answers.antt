@@ -9,31 +9,18 @@ use Rattle.outside.proofs.Alone.{alone}
 use Rattle.outside.proofs.parse_symbol.Goals as goal
 
 pub returns-in_default : goal.returns-in_default
-returns-in_default c x o = let args = c.args in
-    let put = c.put in
-    let ahead-symbol = c.ahead_symbol in
-    let enum_told = c.enum_told-1 in
-    let v = viewed args.m args.line.now in
-    colon-else x v (here args.h args.p) args.p args.queue.now o put.result put.new.1.1.1.1.1.0 o
-    (sym ahead-symbol.ensures ∙ enum_told.given.1)
-    (alone x v args.h args.p args.queue.now o put.result put.new.1.1.1.1.1.0 (put.ensures o))
+returns-in_default c x o = let v = viewed c.args.m c.args.line.now in
+    colon-else x v (here c.args.h c.args.p) c.args.p c.args.queue.now o c.put.result c.put.new.1.1.1.1.1.0 o
+    (sym c.ahead_symbol.ensures ∙ c.in_default.is)
+    (alone x v c.args.h c.args.p c.args.queue.now o c.put.result c.put.new.1.1.1.1.1.0 (c.put.ensures o))
 
 pub named-requires : goal.named-requires
-named-requires c = let pre = c.requires in
-    let ahead-symbol = c.ahead_symbol in
-    let n = c.n-1 in
-    let args = c.args in
-    let r = pre.0 in
-    let e = sym ahead-symbol.ensures ∙ n.given.1 in
-    let s = drop args.h.to args.line.now in
-    let w = scan-within args.line.now args.h.to _ (symbol-some s _ e).within r.within in
-    (omega (arith, r.long), (omega (arith, w, r.small), omega (arith, w, r.room, r.long)))
+named-requires c = let e = sym c.ahead_symbol.ensures ∙ c.in-Some.is in
+    let s = drop c.args.h.to c.args.line.now in
+    let w = scan-within c.args.line.now c.args.h.to _ (symbol-some s _ e).within c.requires.token_ready.within in
+    (omega (arith, c.requires.token_ready.long), (omega (arith, w, c.requires.token_ready.small), omega (arith, w, c.requires.token_ready.room, c.requires.token_ready.long)))
 -- asked: ['from_le_to', 'n_bound', 'room']
 
 pub returns : goal.returns
-returns c x o = let args = c.args in
-    let named = c.named in
-    let ahead-symbol = c.ahead_symbol in
-    let n = c.n-1 in
-    colon-some x (viewed args.m args.line.now) (here args.h args.p) args.p args.queue.now o named.result named.new.1.1.1.1.1.0 o
-    _ (sym ahead-symbol.ensures ∙ n.given.1) (named.ensures o args.line.now)
+returns c x o = colon-some x (viewed c.args.m c.args.line.now) (here c.args.h c.args.p) c.args.p c.args.queue.now o c.named.result c.named.new.1.1.1.1.1.0 o
+    _ (sym c.ahead_symbol.ensures ∙ c.in-Some.is) (c.named.ensures o c.args.line.now)

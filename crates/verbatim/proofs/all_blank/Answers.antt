@@ -9,23 +9,10 @@ pub loop-i-init : goal.loop-i-init
 loop-i-init c = refl
 
 pub returns-then-not-is_blank : goal.returns-then-not-is_blank
-returns-then-not-is_blank c = let args = c.args in
-    let loop = c.loop-i in
-    let loop-test = c.loop-i-test in
-    let is-blank = c.is_blank in
-    let if1 = c.if-not-is_blank in
-    blank-stop args.s.now loop.i loop.invariant loop-test.true (sym is-blank.ensures ∙ not-true _ if1.true)
+returns-then-not-is_blank c = blank-stop c.args.s.now c.loop-i.i c.loop-i.invariant c.loop-i-test.true (sym c.is_blank.ensures ∙ not-true _ c.if-not-is_blank.true-raw)
 
 pub loop-i-preserved : goal.loop-i-preserved
-loop-i-preserved c = let args = c.args in
-    let loop = c.loop-i in
-    let loop-test = c.loop-i-test in
-    let is-blank = c.is_blank in
-    let if1 = c.if-not-is_blank in
-    blank-more args.s.now loop.i loop.invariant loop-test.true (sym is-blank.ensures ∙ not-false _ if1.false)
+loop-i-preserved c = blank-more c.args.s.now c.loop-i.i c.loop-i.invariant c.loop-i-test.true (sym c.is_blank.ensures ∙ not-false _ c.if-not-is_blank.false-raw)
 
 pub returns : goal.returns
-returns c = let args = c.args in
-    let loop = c.loop-i in
-    let loop-test = c.loop-i-test in
-    blank-end args.s.now loop.i loop.invariant loop-test.false
+returns c = blank-end c.args.s.now c.loop-i.i c.loop-i.invariant c.loop-i-test.false

@@ -7,10 +7,4 @@ pub returns-in-No : goal.returns-in-No
 returns-in-No c = search (rules, begun-out)
 
 pub returns-in-Verbatim : goal.returns-in-Verbatim
-returns-in-Verbatim c = let args = c.args in
-    let w = c.w-1 in
-    let later = c.later in
-    let new2 = c.new-in-Verbatim in
-    let moved2 = c.moved-out in
-    let inside = c.inside in
-    begun-in args.reading args.p w.given.0.0 w.given.1 later.result later.ensures new2.result new2.ensures moved2.result moved2.ensures inside.result inside.ensures
+returns-in-Verbatim c = begun-in c.args.reading c.args.p c.in-Verbatim.v c.in-Verbatim.is c.later.result c.later.ensures c.new-in-Verbatim.result c.new-in-Verbatim.ensures c.moved-out.result c.moved-out.ensures c.inside.result c.inside.ensures

@@ -4,38 +4,18 @@ use Rattle.verbatim.proofs.Closing.{opened-raw, raw-change}
 use Rattle.verbatim.proofs.closes_raw.Goals as goal
 
 pub exits-out-requires : goal.exits-out-requires
-exits-out-requires c = let args = c.args in
-    let pre = c.requires in
-    let in_text = c.in_text in
-    let set-kind = c.set_kind in
-    let kept = c.kept-keep in
-    (opened-raw args.w args.p args.queue.now pre.1.1.0 in_text.result set-kind.new.0 set-kind.ensures, (kept.ensures.1 pre.1.1.0.high, omega (arith, pre.1.1.1, set-kind.auto.0)))
--- asked: ['opened', 'n_le_events', 'room']
+exits-out-requires c = record { opened = opened-raw c.args.w c.args.p c.args.queue.now c.requires.opened c.in_text.result c.set_kind.new.queue c.set_kind.ensures; n_le_events = c.kept-keep.ensures.upper_bound c.requires.opened.high; room = omega (arith, c.requires.room, c.set_kind.auto.queue) }
 
 pub overflow_add-a-5 : goal.overflow_add-a-5
-overflow_add-a-5 c = let pre = c.requires in
-    omega (arith, pre)
+overflow_add-a-5 c = omega (arith, c.requires)
 
 pub overflow_add-a-6 : goal.overflow_add-a-6
-overflow_add-a-6 c = let pre = c.requires in
-    omega (arith, pre)
+overflow_add-a-6 c = omega (arith, c.requires)
 
 pub shape_of-queue : goal.shape_of-queue
-shape_of-queue c = let set-kind = c.set_kind in
-    let exits = c.exits-out in
-    omega (arith, set-kind.auto.0, exits.auto.0)
+shape_of-queue c = omega (arith, c.set_kind.auto.queue, c.exits-out.auto.queue)
 
 pub returns : goal.returns
-returns c o line b = let args = c.args in
-    let place_at = c.place_at in
-    let place-at2 = c.place_at-2 in
-    let in_text = c.in_text in
-    let set-kind = c.set_kind in
-    let kept = c.kept-keep in
-    let pre = c.requires in
-    let exits = c.exits-out in
-    let new = c.new in
-    let moved = c.moved in
-    raw-change args.m args.h args.w args.p args.queue.now o place_at.result place_at.ensures args.n place-at2.result place-at2.ensures
-    in_text.result in_text.ensures set-kind.new.0 set-kind.ensures
-    kept.result (kept.ensures.0 set-kind.new.0 pre.1.1.0.high) exits.result exits.new.0 (exits.ensures o) new.result new.ensures moved.result moved.ensures line b
+returns c o line b = raw-change c.args.m c.args.h c.args.w c.args.p c.args.queue.now o c.place_at.result c.place_at.ensures c.args.n c.place_at-2.result c.place_at-2.ensures
+    c.in_text.result c.in_text.ensures c.set_kind.new.queue c.set_kind.ensures
+    c.kept-keep.result (c.kept-keep.ensures.by_index c.set_kind.new.queue c.requires.opened.high) c.exits-out.result c.exits-out.new.queue (c.exits-out.ensures o) c.new.result c.new.ensures c.moved.result c.moved.ensures line b

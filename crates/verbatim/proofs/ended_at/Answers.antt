@@ -4,19 +4,10 @@ use Rattle.verbatim.proofs.Closing.{ended-out, ended-opened, ended-in}
 use Rattle.verbatim.proofs.ended_at.Goals as goal
 
 pub exits-requires : goal.exits-requires
-exits-requires c = let args = c.args in
-    let w = c.w-1 in
-    let pre = c.requires in
-    (ended-opened args.p args.queue.now args.end.0 w.given.0.0 w.given.1 pre.1, (omega arith, pre.0))
--- asked: ['opened', 'n_le_events', 'room']
+exits-requires c = record { opened = ended-opened c.args.p c.args.queue.now c.args.end.0 c.in-Verbatim.v c.in-Verbatim.is c.requires.opened_by; n_le_events = omega arith; room = c.requires.room }
 
 pub returns-in-No : goal.returns-in-No
-returns-in-No c o = let args = c.args in
-    let enum_told = c.enum_told-1 in
-    ended-out args.p args.queue.now args.end.0 o enum_told.given.1
+returns-in-No c o = ended-out c.args.p c.args.queue.now c.args.end.0 o c.in-No.is
 
 pub returns-in-Verbatim : goal.returns-in-Verbatim
-returns-in-Verbatim c o = let args = c.args in
-    let w = c.w-1 in
-    let exits = c.exits in
-    ended-in args.p args.queue.now args.end.0 w.given.0.0 w.given.1 o exits.result exits.new.0 (exits.ensures o)
+returns-in-Verbatim c o = ended-in c.args.p c.args.queue.now c.args.end.0 c.in-Verbatim.v c.in-Verbatim.is o c.exits.result c.exits.new.queue (c.exits.ensures o)

@@ -3,11 +3,5 @@ use Rattle.verbatim.proofs.Closing.{opened-low, exits-change}
 use Rattle.verbatim.proofs.exits.Goals as goal
 
 pub returns : goal.returns
-returns c o = let args = c.args in
-    let pre = c.requires in
-    let exit_of = c.exit_of-e in
-    let no_str = c.no_str in
-    let push = c.push-out in
-    let inside = c.inside in
-    exits-change args.w args.p args.queue.now o (opened-low args.w args.p args.queue.now pre.0) args.n pre.1.0 args.start.0 args.end.0
-    exit_of.result exit_of.ensures no_str.result no_str.ensures push.result push.new.0 (push.ensures o) inside.result inside.ensures
+returns c o = exits-change c.args.w c.args.p c.args.queue.now o (opened-low c.args.w c.args.p c.args.queue.now c.requires.opened) c.args.n c.requires.n_le_events c.args.start.0 c.args.end.0
+    c.exit_of-e.result c.exit_of-e.ensures c.no_str.result c.no_str.ensures c.push-out.result c.push-out.new.queue (c.push-out.ensures o) c.inside.result c.inside.ensures

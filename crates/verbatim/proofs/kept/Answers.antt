@@ -6,13 +6,7 @@ use Rattle.verbatim.proofs.Answers.{kept-cut, kept-all}
 use Rattle.verbatim.proofs.kept.Goals as goal
 
 pub returns-then-w : goal.returns-then-w
-returns-then-w c = let args = c.args in
-    let if1 = c.if-w in
-    (λ q l. kept-cut args.w (events args.p.events q) if1.true, λ l. l)
--- asked: ['by_index', 'upper_bound']
+returns-then-w c = record { by_index = (λ q l. kept-cut c.args.w (events c.args.p.events q) c.if-w.true); upper_bound = (λ l. l) }
 
 pub returns : goal.returns
-returns c = let args = c.args in
-    let if1 = c.if-w in
-    (λ q l. kept-all args.w (events args.p.events q) args.p.events (rows-length event_at args.p.events q) if1.false, λ l. omega arith)
--- asked: ['by_index', 'upper_bound']
+returns c = record { by_index = (λ q l. kept-all c.args.w (events c.args.p.events q) c.args.p.events (rows-length event_at c.args.p.events q) c.if-w.false); upper_bound = (λ l. omega arith) }

@@ -4,27 +4,15 @@ use Rattle.verbatim.proofs.Opening.{left-none, left-some, dollars-some, dollars-
 use Rattle.verbatim.proofs.leave.Goals as goal
 
 pub returns-then-dollars-eq0 : goal.returns-then-dollars-eq0
-returns-then-dollars-eq0 c = let args = c.args in
-    let if1 = c.if-dollars-eq0 in
-    left-none args.dollars args.n args.queue.now if1.true
+returns-then-dollars-eq0 c = left-none c.args.dollars c.args.n c.args.queue.now c.if-dollars-eq0.true
 
 pub overflow_sub-n : goal.overflow_sub-n
-overflow_sub-n c = let args = c.args in
-    let pre = c.requires in
-    let if1 = c.if-dollars-eq0 in
-    dollars-some args.dollars args.n args.queue.now pre.1 if1.false
+overflow_sub-n c = dollars-some c.args.dollars c.args.n c.args.queue.now c.requires.dollars c.if-dollars-eq0.false
 
 pub shorten-requires : goal.shorten-requires
-shorten-requires c = let args = c.args in
-    let pre = c.requires in
-    let if1 = c.if-dollars-eq0 in
-    let few = dollars-some args.dollars args.n args.queue.now pre.1 if1.false in
-    (omega (arith, few, pre.0), dollars-within args.dollars args.n args.queue.now pre.1 if1.false)
+shorten-requires c = let few = dollars-some c.args.dollars c.args.n c.args.queue.now c.requires.dollars c.if-dollars-eq0.false in
+    (omega (arith, few, c.requires.queue_numbers_in_bounds), dollars-within c.args.dollars c.args.n c.args.queue.now c.requires.dollars c.if-dollars-eq0.false)
 -- asked: ['queue_numbers_in_bounds', 'bytes_bound']
 
 pub returns : goal.returns
-returns c = let args = c.args in
-    let pre = c.requires in
-    let if1 = c.if-dollars-eq0 in
-    let shorten = c.shorten in
-    left-some args.dollars args.n args.queue.now pre.1 if1.false shorten.new.0 shorten.ensures
+returns c = left-some c.args.dollars c.args.n c.args.queue.now c.requires.dollars c.if-dollars-eq0.false c.shorten.new.queue c.shorten.ensures

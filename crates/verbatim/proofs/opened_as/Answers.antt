@@ -3,16 +3,10 @@ use Rattle.verbatim.proofs.Answers.{opened-plain, opened-inline, opened-display}
 use Rattle.verbatim.proofs.opened_as.Goals as goal
 
 pub returns-in-0 : goal.returns-in-0
-returns-in-0 c = let args = c.args in
-    let match = c.in-0 in
-    opened-plain args.dollars match.keys1
+returns-in-0 c = opened-plain c.args.dollars c.in-0.is
 
 pub returns-in-1 : goal.returns-in-1
-returns-in-1 c = let args = c.args in
-    let match = c.in-1 in
-    opened-inline args.dollars match.keys2
+returns-in-1 c = opened-inline c.args.dollars c.in-1.is
 
 pub returns-in_default : goal.returns-in_default
-returns-in_default c = let args = c.args in
-    let match = c.in_default.in_default-own in
-    opened-display args.dollars match.rest.0.1 match.rest.1
+returns-in_default c = opened-display c.args.dollars c.in_default.in_default-own.rest.0.1 c.in_default.in_default-own.rest.1

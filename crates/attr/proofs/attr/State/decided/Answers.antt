@@ -1,6 +1,6 @@
 -- `attr::attr::State::decided` meets its contract: the test is computed over what a pattern lists.
 use mathlib.Core.Path.{refl, sym}
-use mathlib.Core.List.{◌∷◌}
+use mathlib.Core.List.{[], ◌∷◌}
 use mathlib.Core.Bool.{not}
 use borrow.Author.Tests.{not-true}
 use Rattle.attr.specs.Attributes.{is_decided}

@@ -1,6 +1,6 @@
 -- `attr::attr::State::step` meets its contract: each arm is the table of the states that its pattern lists.
 use mathlib.Core.Path.{◌≡◌, refl, ◌∙◌}
-use mathlib.Core.List.{◌∷◌}
+use mathlib.Core.List.{[], ◌∷◌}
 use Rattle.attr.specs.Attributes.{comment, rest, continued, step}
 use Rattle.attr.proofs.States.{listed}
 use Rattle.attr.proofs.attr.State.step.Goals as goal
@@ -15,9 +15,8 @@ returns-in-Whitespace c = rw c.in-Whitespace.is c.parts.ensures
 
 pub returns-in-CommentFirst : goal.returns-in-CommentFirst
 unfolding step
-returns-in-CommentFirst c = let a = c.args in
-    c.comment.ensures
-    ∙ listed (λ s. comment a.c ≡ step s a.c) (2 ∷ 3 ∷ 4 ∷ []) a.self (refl, (refl, (refl, tt))) c.in-CommentFirst.in-CommentFirst-own.keys3
+returns-in-CommentFirst c = c.comment.ensures
+    ∙ listed (λ s. comment c.args.c ≡ step s c.args.c) (2 ∷ 3 ∷ 4 ∷ []) c.args.self (refl, (refl, (refl, tt))) c.in-CommentFirst.in-CommentFirst-own.keys3
 
 pub returns-in-ClassFirst : goal.returns-in-ClassFirst
 unfolding step
@@ -29,9 +28,8 @@ returns-in-IdentifierFirst c = rw c.in-IdentifierFirst.is c.first-in-IdentifierF
 
 pub returns-in-Class : goal.returns-in-Class
 unfolding step
-returns-in-Class c = let a = c.args in
-    c.rest.ensures
-    ∙ listed (λ s. rest s a.c ≡ step s a.c) (6 ∷ 8 ∷ 11 ∷ []) a.self (refl, (refl, (refl, tt))) c.in-Class.in-Class-own.keys6
+returns-in-Class c = c.rest.ensures
+    ∙ listed (λ s. rest s c.args.c ≡ step s c.args.c) (6 ∷ 8 ∷ 11 ∷ []) c.args.self (refl, (refl, (refl, tt))) c.in-Class.in-Class-own.keys6
 
 pub returns-in-Key : goal.returns-in-Key
 unfolding step
@@ -51,10 +49,9 @@ returns-in-ValueEscape c = rw c.in-ValueEscape.is c.escaped.ensures
 
 pub returns-in-ValueNewline : goal.returns-in-ValueNewline
 unfolding step
-returns-in-ValueNewline c = let a = c.args in
-    c.continued.ensures
-    ∙ listed (λ s. continued a.c ≡ step s a.c) (14 ∷ 15 ∷ []) a.self (refl, (refl, tt)) c.in-ValueNewline.in-ValueNewline-own.keys11
+returns-in-ValueNewline c = c.continued.ensures
+    ∙ listed (λ s. continued c.args.c ≡ step s c.args.c) (14 ∷ 15 ∷ []) c.args.self (refl, (refl, tt)) c.in-ValueNewline.in-ValueNewline-own.keys11
 
 pub returns-in-Invalid : goal.returns-in-Invalid
 unfolding step
-returns-in-Invalid c = let a = c.args in listed (λ s. s ≡ step s a.c) (17 ∷ 16 ∷ []) a.self (refl, (refl, tt)) c.in-Invalid.in-Invalid-own.keys12
+returns-in-Invalid c = listed (λ s. s ≡ step s c.args.c) (17 ∷ 16 ∷ []) c.args.self (refl, (refl, tt)) c.in-Invalid.in-Invalid-own.keys12

@@ -1,0 +1,21 @@
+-- `reader::parse_lines` meets its contract, by the laws of `Ending`.
+use mathlib.Core.Path.{refl, sym}
+use lib.ListN.{length}
+use lib.Seq.{length-take-le}
+use Rattle.inline.specs.Lines.{lines_of}
+use Rattle.questions.proofs.Asking.{passed-paired}
+use Rattle.reader.proofs.Ending.{counting-within, sheeted, stood}
+use Rattle.reader.proofs.parse_lines.Goals as goal
+
+pub slice_bounds-parse-end : goal.slice_bounds-parse-end
+slice_bounds-parse-end c = (counting-within (length c.args.labels.now) c.counted-room.result c.counted-room.ensures).0
+
+pub slice_bounds-parse-end-2 : goal.slice_bounds-parse-end-2
+slice_bounds-parse-end-2 c = sym (length-take-le c.counted-room.result c.args.labels.now (counting-within (length c.args.labels.now) c.counted-room.result c.counted-room.ensures).0)
+
+pub parse-requires : goal.parse-requires
+parse-requires c = record { starts_len = passed-paired c.args.text.now c.args.starts.now c.args.ends.now c.args.queue.now c.args.openers.now c.requires; sheeted = sheeted c.args.text.now (lines_of c.args.starts.now c.args.ends.now) c.args.reading c.args.queue.now c.args.openers.now c.args.labels.now c.requires c.counted-room.result c.counted-room.ensures }
+
+pub returns : goal.returns
+returns c = stood c.args.text.now (lines_of c.args.starts.now c.args.ends.now) c.args.reading c.args.queue.now c.args.openers.now c.args.labels.now c.requires c.counted-room.result c.counted-room.ensures c.parse.result c.parse.new.1.1.1.1.0 c.parse.new.1.1.1.1.1.0 c.parse.new.1.1.1.1.1.1.0 _ c.parse.ensures c.parse.auto.1.1.1.1.1.1.0 refl
+-- asked: ['stands_for', 'labels_bound']
