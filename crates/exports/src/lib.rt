@@ -415,7 +415,7 @@ pub extern "C" fn mivurakol_read_numbers(
     ensures labels_after { outcome_of result events.new queue.new openers.new labels.new ≡ outcome text.now
         (lines_of starts.now ends.now) reading (rooms_of events.old queue.old openers.old labels.old) }
     ensures accepted { result.code ≡ 0 → Accepted text.now (lines_of starts.now ends.now) reading (rooms_of events.entry.now queue.old openers.old labels.old) (outcome_of result events.new queue.new openers.exit.now labels.new) }
-    ensures fact { total (lines_of starts.now ends.now) + 1 ≤ length events.old / event_numbers → result.code ≡ 9 → ⊥ }
+    ensures events_suffice { total (lines_of starts.now ends.now) + 1 ≤ length events.old / event_numbers → result.code ≡ 9 → ⊥ }
 {
     reader::read(text, starts, ends, reading, events, queue, openers, labels)
 }

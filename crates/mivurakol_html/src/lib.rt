@@ -25,8 +25,8 @@ pub extern "C" fn mivurakol_fragment(
         text.now lines.now reading (rooms_of events.old queue.old openers.old labels.entry.now) out.old }
     ensures shows { result.code ≡ 0 → Shows text.now lines.now reading (rooms_of events.old queue.old openers.entry.now labels.old) (fragmented_of result (rooms_of events.new queue.new openers.new labels.new)
         out.new) }
-    ensures fact { total lines.now + 1 ≤ length events.old / event_numbers → result.code ≡ 9 → ⊥ }
-    ensures fact_2 { enough lines.now ≤ length out.old → result.code ≡ 11 → ⊥ }
+    ensures events_suffice { total lines.now + 1 ≤ length events.old / event_numbers → result.code ≡ 9 → ⊥ }
+    ensures output_suffices { enough lines.now ≤ length out.old → result.code ≡ 11 → ⊥ }
 {
     fragment::write(text, lines, reading, events, queue, openers, labels, out)
 }

@@ -159,7 +159,7 @@ pub fn read(
     ensures labels_after { outcome_of result events.new queue.new openers.new labels.new ≡ outcome text.now
         (lines_of starts.now ends.now) reading (rooms_of events.old queue.old openers.old labels.old) }
     ensures accepted { result.code ≡ 0 → Accepted text.now (lines_of starts.now ends.now) reading (rooms_of events.entry.now queue.old openers.old labels.old) (outcome_of result events.new queue.new openers.exit.now labels.new) }
-    ensures fact { total (lines_of starts.now ends.now) + 1 ≤ length events.old / event_numbers → result.code ≡ 9 → ⊥ }
+    ensures events_suffice { total (lines_of starts.now ends.now) + 1 ≤ length events.old / event_numbers → result.code ≡ 9 → ⊥ }
 {
     let asked = questions::questions(text, starts, ends, reading, queue.len(), openers.len());
     match asked {

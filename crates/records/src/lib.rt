@@ -196,7 +196,7 @@ pub fn read(
     ensures labels_after { outcome_of result events.new queue.new openers.new labels.new ≡ outcome text.now
         lines.now reading (rooms_of events.old queue.old openers.old labels.old) }
     ensures accepted { result.code ≡ 0 → Accepted text.now lines.now reading (rooms_of events.old queue.old openers.old labels.old) (outcome_of result events.new queue.new openers.new labels.new) }
-    ensures fact { total lines.now + 1 ≤ length events.old / event_numbers → result.code ≡ 9 → ⊥ }
+    ensures events_suffice { total lines.now + 1 ≤ length events.old / event_numbers → result.code ≡ 9 → ⊥ }
 {
     let asked = questions(text, lines, reading, queue.len(), openers.len());
     match asked {

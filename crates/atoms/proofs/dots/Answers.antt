@@ -9,8 +9,7 @@ use Rattle.atoms.proofs.dots.Goals as goal
 
 pub row-out-requires : goal.row-out-requires
 row-out-requires c = let few = periods-few (c.args.h.to - c.args.h.from) c.split_periods-d.result c.split_periods-d.ensures in
-    (omega (arith, few, c.requires), omega (arith, few, c.requires))
--- asked: ['w_bound', 'room']
+    record { w_bound = omega (arith, few, c.requires); room = omega (arith, few, c.requires) }
 
 pub overflow_mul-rest : goal.overflow_mul-rest
 overflow_mul-rest c = let few = periods-few (c.args.h.to - c.args.h.from) c.split_periods-d.result c.split_periods-d.ensures in
@@ -22,9 +21,8 @@ overflow_add-rest c = let few = periods-few (c.args.h.to - c.args.h.from) c.spli
 
 pub put-requires : goal.put-requires
 put-requires c = let few = periods-few (c.args.h.to - c.args.h.from) c.split_periods-d.result c.split_periods-d.ensures in
-    let more = dots-events c.args.m c.args.h c.args.p c.args.queue.now [] c.args.line.now c.requires.fits.ordered c.split_periods-d.result.ellipses (ap (λ (d : Dots). d.ellipses) c.split_periods-d.ensures) c.row-out.result c.row-out.new.1.1.1.1.1.1.0 (c.row-out.ensures []) in
-    (record { ordered = omega (arith, few, c.requires); within = c.requires.fits.within; small = c.requires.fits.small }, omega (arith, few, more, c.requires, c.row-out.auto.1.1.1.1.1.1.0))
--- asked: ['fits', 'room']
+    let more = dots-events c.args.m c.args.h c.args.p c.args.queue.now [] c.args.line.now c.requires.fits.ordered c.split_periods-d.result.ellipses (ap (λ (d : Dots). d.ellipses) c.split_periods-d.ensures) c.row-out.result c.row-out.new.queue (c.row-out.ensures []) in
+    record { fits = record { ordered = omega (arith, few, c.requires); within = c.requires.fits.within; small = c.requires.fits.small }; room = omega (arith, few, more, c.requires, c.row-out.auto.queue) }
 
 pub returns : goal.returns
-returns c o = dots-change c.args.m c.args.h c.args.p c.args.queue.now o c.args.line.now c.requires.fits.ordered c.split_periods-d.result.ellipses (ap (λ (d : Dots). d.ellipses) c.split_periods-d.ensures) c.row-out.result c.row-out.new.1.1.1.1.1.1.0 (c.row-out.ensures o) c.put.result _ (c.put.ensures o)
+returns c o = dots-change c.args.m c.args.h c.args.p c.args.queue.now o c.args.line.now c.requires.fits.ordered c.split_periods-d.result.ellipses (ap (λ (d : Dots). d.ellipses) c.split_periods-d.ensures) c.row-out.result c.row-out.new.queue (c.row-out.ensures o) c.put.result _ (c.put.ensures o)

@@ -18,20 +18,19 @@ closes_span-requires c = record { ready = c.requires.ready; event_lt_events = na
 pub closes_link-requires : goal.closes_link-requires
 closes_link-requires c = let e = sym c.closing_of.ensures ∙ c.in-Link.is in
     let n = named-link c.args.o c.args.p.events _ _ c.requires.names e in
-    (omega (arith, c.requires.ready.long), (omega (arith, c.requires.ready.small, c.requires.ready.within), (link-small c.args.o.sort _ e, (n.0, (n.1, (omega (arith, c.requires.ready.room), (c.requires.label_room.labels, (c.requires.label_room.room, c.requires.label_room.links))))))))
--- asked: ['from_le_to', 'to_bound', 'container_lt_enter_from', 'span_bound', 'event_lt_events', 'queue_numbers_in_bounds', 'labels_in_bounds', 'labels_len_bound', 'links_bound']
+    record { from_le_to = omega (arith, c.requires.ready.long); to_bound = omega (arith, c.requires.ready.small, c.requires.ready.within); container_lt_enter_from = link-small c.args.o.sort _ e; span_bound = n.0; event_lt_events = n.1; queue_numbers_in_bounds = omega (arith, c.requires.ready.room); labels_in_bounds = c.requires.label_room.labels; labels_len_bound = c.requires.label_room.room; links_bound = c.requires.label_room.links }
 
 pub peeked-requires-in-Link : goal.peeked-requires-in-Link
 peeked-requires-in-Link c = c.requires.ruled
 
 pub returns-in-Pair : goal.returns-in-Pair
 returns-in-Pair c rules = pair_step c.args.m c.args.text.now c.args.line.now c.args.h c.args.o c.args.p c.args.queue.now c.args.openers.now c.args.labels.now c.requires.label_room rules _ (sym c.closing_of.ensures ∙ c.in-Pair.is)
-    c.closes_pair.result c.closes_pair.new.1.1.1.1.1.0 (c.closes_pair.ensures c.args.openers.now c.args.line.now) c.peeked.result c.peeked.ensures
+    c.closes_pair.result c.closes_pair.new.queue (c.closes_pair.ensures c.args.openers.now c.args.line.now) c.peeked.result c.peeked.ensures
 
 pub returns-in-Span : goal.returns-in-Span
 returns-in-Span c rules = span-step c.args.m c.args.text.now c.args.line.now c.args.h c.args.o c.args.p c.args.queue.now c.args.openers.now c.args.labels.now c.requires.label_room rules _ (sym c.closing_of.ensures ∙ c.in-Span.is)
-    c.closes_span.result c.closes_span.new.1.1.1.1.1.1.0 c.closes_span.new.1.1.1.1.1.1.1.0 c.closes_span.ensures
+    c.closes_span.result c.closes_span.new.queue c.closes_span.new.openers c.closes_span.ensures
 
 pub returns-in-Link : goal.returns-in-Link
 returns-in-Link c rules = link-as c.args.m c.args.text.now c.args.line.now c.args.h c.args.o c.args.p c.args.queue.now c.args.openers.now c.args.labels.now c.requires.label_room rules _ (sym c.closing_of.ensures ∙ c.in-Link.is)
-    c.closes_link.result c.closes_link.new.1.1.1.1.1.1.0 c.closes_link.new.1.1.1.1.1.1.1.0 (c.closes_link.ensures rules c.args.openers.now c.args.line.now) c.peeked-in-Link.result c.peeked-in-Link.ensures
+    c.closes_link.result c.closes_link.new.queue c.closes_link.new.labels (c.closes_link.ensures rules c.args.openers.now c.args.line.now) c.peeked-in-Link.result c.peeked-in-Link.ensures

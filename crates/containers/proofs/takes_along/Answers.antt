@@ -13,4 +13,4 @@ put-requires c = record { fits = c.requires.fits; room = omega (arith, c.require
 
 pub returns : goal.returns
 returns c = along-change c.args.m c.args.line.now c.args.h c.args.sort c.args.span c.args.p c.args.queue.now c.args.openers.now c.push_opener.new.openers c.push_opener.ensures
-    _ c.moved-out.result c.moved-out.ensures c.put.result c.put.new.1.1.1.1.1.0 (c.put.ensures c.push_opener.new.openers) _ (sym c.skip-behind.ensures)
+    _ c.moved-out.result c.moved-out.ensures c.put.result c.put.new.queue (c.put.ensures c.push_opener.new.openers) _ (sym c.skip-behind.ensures)

@@ -18,8 +18,7 @@ opener_at-requires c = let q = [] in
 pub may_close-requires : goal.may_close-requires
 may_close-requires c = let q = [] in
     let l = [] in
-    (c.requires.from_in_bounds, (sought-names (viewed c.args.m c.args.line.now) (here c.args.h c.args.p) (stands c.args.p q c.args.openers.now l) c.args.openers.now c.args.closes c.args.p.openers c.seek.result c.seek.ensures _ c.in-At.is c.opener_at.result c.opener_at.ensures c.args.p.events c.requires.named, c.requires.ruled))
--- asked: ['from_in_bounds', 'event_lt_events', 'ruled']
+    record { from_in_bounds = c.requires.from_in_bounds; event_lt_events = sought-names (viewed c.args.m c.args.line.now) (here c.args.h c.args.p) (stands c.args.p q c.args.openers.now l) c.args.openers.now c.args.closes c.args.p.openers c.seek.result c.seek.ensures _ c.in-At.is c.opener_at.result c.opener_at.ensures c.args.p.events c.requires.named; ruled = c.requires.ruled }
 
 pub returns-then-may_close : goal.returns-then-may_close
 returns-then-may_close c q l = sought-closes (viewed c.args.m c.args.line.now) (here c.args.h c.args.p) (stands c.args.p q c.args.openers.now l) c.args.openers.now c.args.closes c.args.p.openers c.seek.result c.seek.ensures _ c.in-At.is c.opener_at.result c.opener_at.ensures (sym (c.may_close.ensures q c.args.openers.now l) ∙ c.if-may_close.true)

@@ -22,4 +22,4 @@ put_events-requires c = record { event_numbers_in_bounds = c.requires; from_in_b
 
 pub returns : goal.returns
 returns c = count-then c.args.events.now c.args.n c.args.out.now c.put_number.result c.put_number.new.out c.put_number.ensures c.in-To.at c.in-To.is
-    c.put_events.result c.put_events.new.1.1.0 c.put_events.ensures
+    c.put_events.result c.put_events.new.out c.put_events.ensures

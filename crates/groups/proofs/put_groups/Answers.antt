@@ -23,7 +23,7 @@ returns-in_default c = let loop = c.loop-rest in
     let loop-test = c.loop-rest-test in
     let put_byte = c.put_byte in
     let enum_told = c.enum_told-1 in
-    rest-full loop.invariant loop-test.true put_byte.result put_byte.new.0 put_byte.ensures enum_told.given.1
+    rest-full loop.invariant loop-test.true put_byte.result put_byte.new.out put_byte.ensures enum_told.given.1
 
 pub loop-rest-smaller : goal.loop-rest-smaller
 loop-rest-smaller c = let loop-test = c.loop-rest-test in
@@ -34,7 +34,7 @@ loop-rest-preserved c = let loop = c.loop-rest in
     let loop-test = c.loop-rest-test in
     let put_byte = c.put_byte in
     let next = c.next-1 in
-    rest-turn loop.invariant loop-test.true put_byte.result put_byte.new.0 put_byte.ensures next.given.0.0 next.given.1
+    rest-turn loop.invariant loop-test.true put_byte.result put_byte.new.out put_byte.ensures next.given.0.0 next.given.1
 
 pub put_byte-requires-2 : goal.put_byte-requires-2
 put_byte-requires-2 c = let loop = c.loop-rest in

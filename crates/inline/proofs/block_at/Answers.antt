@@ -13,8 +13,7 @@ bounds-ends-i c = omega (arith, c.requires.within.some, lines-length c.args.star
 
 pub validate-v-requires : goal.validate-v-requires
 validate-v-requires c = let is = lines_at c.args.starts.now c.args.ends.now c.args.i (omega (arith, c.requires.within.some, lines-length c.args.starts.now c.args.ends.now c.requires.starts_len)) (omega (arith, c.requires.within.some, lines-length c.args.starts.now c.args.ends.now c.requires.starts_len, c.requires.starts_len)) in
-    (omega (arith, c.requires.within.high, ap (λ z. z.end) is), (omega (arith, line-within c.args.text.now (lines_of c.args.starts.now c.args.ends.now) c.args.i c.args.at c.requires.within c.args.i c.requires.within.some, ap (λ z. z.end) is), c.requires.ruled))
--- asked: ['start_le_end', 'end_in_bounds', 'ruled']
+    record { start_le_end = omega (arith, c.requires.within.high, ap (λ z. z.end) is); end_in_bounds = omega (arith, line-within c.args.text.now (lines_of c.args.starts.now c.args.ends.now) c.args.i c.args.at c.requires.within c.args.i c.requires.within.some, ap (λ z. z.end) is); ruled = c.requires.ruled }
 
 pub overflow_add-k : goal.overflow_add-k
 overflow_add-k c = omega (arith, c.requires.within.some, c.requires.within.listed)
@@ -39,8 +38,7 @@ validate-v-requires-in-loop-k c = let all = lines_of c.args.starts.now c.args.en
     let here = lines_at c.args.starts.now c.args.ends.now c.args.i first (omega (arith, first, c.requires.starts_len)) in
     let ordered = line-ordered c.args.text.now all c.args.i c.args.at c.requires.within c.loop-k.k some in
     let later = line-later c.args.text.now all c.args.i c.args.at c.requires.within c.loop-k.k c.loop-k.invariant.past some in
-    (omega (arith, ordered, later, ap (λ z. z.end) here, ap (λ z. z.start) is, ap (λ z. z.end) is), (omega (arith, line-within c.args.text.now all c.args.i c.args.at c.requires.within c.loop-k.k some, ap (λ z. z.end) is), c.requires.ruled))
--- asked: ['start_le_end', 'end_in_bounds', 'ruled']
+    record { start_le_end = omega (arith, ordered, later, ap (λ z. z.end) here, ap (λ z. z.start) is, ap (λ z. z.end) is); end_in_bounds = omega (arith, line-within c.args.text.now all c.args.i c.args.at c.requires.within c.loop-k.k some, ap (λ z. z.end) is); ruled = c.requires.ruled }
 
 pub overflow_add-k-in-loop-k : goal.overflow_add-k-in-loop-k
 overflow_add-k-in-loop-k c = omega (arith, c.loop-k-test.true, c.requires.within.listed, lines-length c.args.starts.now c.args.ends.now c.requires.starts_len)

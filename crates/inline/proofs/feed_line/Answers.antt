@@ -13,4 +13,4 @@ pub read_line-requires : goal.read_line-requires
 read_line-requires c = record { lined = fed-lined c.args.text.now (record { start = c.args.start; end = c.args.end }) c.margin_of-m.result c.margin_of-m.ensures c.args.reading c.args.p c.args.queue.now c.args.openers.now c.args.labels.now c.requires.amid c.requires.labels_in_bounds; ruled = c.requires.ruled }
 
 pub returns : goal.returns
-returns c = fed-stepped c.args.text.now (record { start = c.args.start; end = c.args.end }) c.margin_of-m.result c.margin_of-m.ensures c.args.reading c.args.p c.args.queue.now c.args.openers.now c.args.labels.now c.read_line.result c.read_line.new.1.1.1.1.1.0 c.read_line.new.1.1.1.1.1.1.0 c.read_line.new.1.1.1.1.1.1.1.0 c.read_line.ensures
+returns c = fed-stepped c.args.text.now (record { start = c.args.start; end = c.args.end }) c.margin_of-m.result c.margin_of-m.ensures c.args.reading c.args.p c.args.queue.now c.args.openers.now c.args.labels.now c.read_line.result c.read_line.new.queue c.read_line.new.openers c.read_line.new.labels c.read_line.ensures

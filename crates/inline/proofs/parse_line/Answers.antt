@@ -37,69 +37,67 @@ pub feed_line-out-requires : goal.feed_line-out-requires
 feed_line-out-requires c = let some : c.args.i < length c.args.starts.now = omega (arith, c.requires.behind.some, lines-length c.args.starts.now c.args.ends.now c.requires.starts_len) in
     let e = entered c.args.text.now (lines_of c.args.starts.now c.args.ends.now) c.args.i c.args.reading c.args.p c.args.queue.now c.args.openers.now c.args.labels.now c.requires.behind c.in-No.is c.requires.labels_in_bounds c.begin_line-out.result c.begin_line-out.ensures in
     let t = c.loop-left.invariant (stands c.args.p c.args.queue.now c.args.openers.now c.args.labels.now) e in
-    (walks-amid c.args.text.now (lines_of c.args.starts.now c.args.ends.now) c.args.i c.args.reading (stands c.args.p c.args.queue.now c.args.openers.now c.args.labels.now) c.args.queue.now c.args.openers.now c.args.labels.now e.behind c.loop-left.queue c.loop-left.openers c.loop-left.labels c.loop-left.out c.loop-left.left t _ (lines_at c.args.starts.now c.args.ends.now c.args.i some (omega (arith, some, c.requires.starts_len))), (t.labels, c.requires.ruled))
--- asked: ['amid', 'labels_in_bounds', 'ruled']
+    record { amid = walks-amid c.args.text.now (lines_of c.args.starts.now c.args.ends.now) c.args.i c.args.reading (stands c.args.p c.args.queue.now c.args.openers.now c.args.labels.now) c.args.queue.now c.args.openers.now c.args.labels.now e.behind c.loop-left.queue c.loop-left.openers c.loop-left.labels c.loop-left.out c.loop-left.left t _ (lines_at c.args.starts.now c.args.ends.now c.args.i some (omega (arith, some, c.requires.starts_len))); labels_in_bounds = t.labels; ruled = c.requires.ruled }
 
 pub shape_of-queue-in_default-refused : goal.shape_of-queue-in_default-refused
 shape_of-queue-in_default-refused c = let some : c.args.i < length c.args.starts.now = omega (arith, c.requires.behind.some, lines-length c.args.starts.now c.args.ends.now c.requires.starts_len) in
     let e = entered c.args.text.now (lines_of c.args.starts.now c.args.ends.now) c.args.i c.args.reading c.args.p c.args.queue.now c.args.openers.now c.args.labels.now c.requires.behind c.in-No.is c.requires.labels_in_bounds c.begin_line-out.result c.begin_line-out.ensures in
     let t = c.loop-left.invariant (stands c.args.p c.args.queue.now c.args.openers.now c.args.labels.now) e in
-    omega (arith, t.long_q, c.feed_line-out.auto.1.1.1.1.1.0)
+    omega (arith, t.long_q, c.feed_line-out.auto.queue)
 
 pub shape_of-openers-in_default-refused : goal.shape_of-openers-in_default-refused
 shape_of-openers-in_default-refused c = let some : c.args.i < length c.args.starts.now = omega (arith, c.requires.behind.some, lines-length c.args.starts.now c.args.ends.now c.requires.starts_len) in
     let e = entered c.args.text.now (lines_of c.args.starts.now c.args.ends.now) c.args.i c.args.reading c.args.p c.args.queue.now c.args.openers.now c.args.labels.now c.requires.behind c.in-No.is c.requires.labels_in_bounds c.begin_line-out.result c.begin_line-out.ensures in
     let t = c.loop-left.invariant (stands c.args.p c.args.queue.now c.args.openers.now c.args.labels.now) e in
-    omega (arith, t.long_o, c.feed_line-out.auto.1.1.1.1.1.1.0)
+    omega (arith, t.long_o, c.feed_line-out.auto.openers)
 
 pub shape_of-labels-in_default-refused : goal.shape_of-labels-in_default-refused
 shape_of-labels-in_default-refused c = let some : c.args.i < length c.args.starts.now = omega (arith, c.requires.behind.some, lines-length c.args.starts.now c.args.ends.now c.requires.starts_len) in
     let e = entered c.args.text.now (lines_of c.args.starts.now c.args.ends.now) c.args.i c.args.reading c.args.p c.args.queue.now c.args.openers.now c.args.labels.now c.requires.behind c.in-No.is c.requires.labels_in_bounds c.begin_line-out.result c.begin_line-out.ensures in
     let t = c.loop-left.invariant (stands c.args.p c.args.queue.now c.args.openers.now c.args.labels.now) e in
-    omega (arith, t.long_l, c.feed_line-out.auto.1.1.1.1.1.1.1.0)
+    omega (arith, t.long_l, c.feed_line-out.auto.labels)
 
 pub returns-in_default-refused : goal.returns-in_default-refused
 returns-in_default-refused c = let some : c.args.i < length c.args.starts.now = omega (arith, c.requires.behind.some, lines-length c.args.starts.now c.args.ends.now c.requires.starts_len) in
     let e = entered c.args.text.now (lines_of c.args.starts.now c.args.ends.now) c.args.i c.args.reading c.args.p c.args.queue.now c.args.openers.now c.args.labels.now c.requires.behind c.in-No.is c.requires.labels_in_bounds c.begin_line-out.result c.begin_line-out.ensures in
     let t = c.loop-left.invariant (stands c.args.p c.args.queue.now c.args.openers.now c.args.labels.now) e in
-    walks-end c.args.text.now (lines_of c.args.starts.now c.args.ends.now) c.args.i c.args.reading (stands c.args.p c.args.queue.now c.args.openers.now c.args.labels.now) c.args.queue.now c.args.openers.now c.args.labels.now e.behind c.loop-left.queue c.loop-left.openers c.loop-left.labels c.loop-left.out c.loop-left.left t _ (lines_at c.args.starts.now c.args.ends.now c.args.i some (omega (arith, some, c.requires.starts_len))) c.feed_line-out.result c.feed_line-out.new.1.1.1.1.1.0 c.feed_line-out.new.1.1.1.1.1.1.0 c.feed_line-out.new.1.1.1.1.1.1.1.0 c.feed_line-out.ensures c.in_default-refused.is
+    walks-end c.args.text.now (lines_of c.args.starts.now c.args.ends.now) c.args.i c.args.reading (stands c.args.p c.args.queue.now c.args.openers.now c.args.labels.now) c.args.queue.now c.args.openers.now c.args.labels.now e.behind c.loop-left.queue c.loop-left.openers c.loop-left.labels c.loop-left.out c.loop-left.left t _ (lines_at c.args.starts.now c.args.ends.now c.args.i some (omega (arith, some, c.requires.starts_len))) c.feed_line-out.result c.feed_line-out.new.queue c.feed_line-out.new.openers c.feed_line-out.new.labels c.feed_line-out.ensures c.in_default-refused.is
 
 pub block_at-requires : goal.block_at-requires
 block_at-requires c = let some : c.args.i < length c.args.starts.now = omega (arith, c.requires.behind.some, lines-length c.args.starts.now c.args.ends.now c.requires.starts_len) in
     let e = entered c.args.text.now (lines_of c.args.starts.now c.args.ends.now) c.args.i c.args.reading c.args.p c.args.queue.now c.args.openers.now c.args.labels.now c.requires.behind c.in-No.is c.requires.labels_in_bounds c.begin_line-out.result c.begin_line-out.ensures in
     let t = c.loop-left.invariant (stands c.args.p c.args.queue.now c.args.openers.now c.args.labels.now) e in
-    (c.requires.starts_len, (walks-within c.args.text.now (lines_of c.args.starts.now c.args.ends.now) c.args.i c.args.reading (stands c.args.p c.args.queue.now c.args.openers.now c.args.labels.now) c.args.queue.now c.args.openers.now c.args.labels.now e.behind c.loop-left.queue c.loop-left.openers c.loop-left.labels c.loop-left.out c.loop-left.left t _ (lines_at c.args.starts.now c.args.ends.now c.args.i some (omega (arith, some, c.requires.starts_len))) c.feed_line-out.result c.feed_line-out.new.1.1.1.1.1.0 c.feed_line-out.new.1.1.1.1.1.1.0 c.feed_line-out.new.1.1.1.1.1.1.1.0 c.feed_line-out.ensures c.in-At.at c.in-At.is, c.requires.ruled))
--- asked: ['starts_len', 'within', 'ruled']
+    record { starts_len = c.requires.starts_len; within = walks-within c.args.text.now (lines_of c.args.starts.now c.args.ends.now) c.args.i c.args.reading (stands c.args.p c.args.queue.now c.args.openers.now c.args.labels.now) c.args.queue.now c.args.openers.now c.args.labels.now e.behind c.loop-left.queue c.loop-left.openers c.loop-left.labels c.loop-left.out c.loop-left.left t _ (lines_at c.args.starts.now c.args.ends.now c.args.i some (omega (arith, some, c.requires.starts_len))) c.feed_line-out.result c.feed_line-out.new.queue c.feed_line-out.new.openers c.feed_line-out.new.labels c.feed_line-out.ensures c.in-At.at c.in-At.is; ruled = c.requires.ruled }
 
 pub shape_of-queue-then-block_at : goal.shape_of-queue-then-block_at
 shape_of-queue-then-block_at c = let some : c.args.i < length c.args.starts.now = omega (arith, c.requires.behind.some, lines-length c.args.starts.now c.args.ends.now c.requires.starts_len) in
     let e = entered c.args.text.now (lines_of c.args.starts.now c.args.ends.now) c.args.i c.args.reading c.args.p c.args.queue.now c.args.openers.now c.args.labels.now c.requires.behind c.in-No.is c.requires.labels_in_bounds c.begin_line-out.result c.begin_line-out.ensures in
     let t = c.loop-left.invariant (stands c.args.p c.args.queue.now c.args.openers.now c.args.labels.now) e in
-    omega (arith, t.long_q, c.feed_line-out.auto.1.1.1.1.1.0)
+    omega (arith, t.long_q, c.feed_line-out.auto.queue)
 
 pub shape_of-openers-then-block_at : goal.shape_of-openers-then-block_at
 shape_of-openers-then-block_at c = let some : c.args.i < length c.args.starts.now = omega (arith, c.requires.behind.some, lines-length c.args.starts.now c.args.ends.now c.requires.starts_len) in
     let e = entered c.args.text.now (lines_of c.args.starts.now c.args.ends.now) c.args.i c.args.reading c.args.p c.args.queue.now c.args.openers.now c.args.labels.now c.requires.behind c.in-No.is c.requires.labels_in_bounds c.begin_line-out.result c.begin_line-out.ensures in
     let t = c.loop-left.invariant (stands c.args.p c.args.queue.now c.args.openers.now c.args.labels.now) e in
-    omega (arith, t.long_o, c.feed_line-out.auto.1.1.1.1.1.1.0)
+    omega (arith, t.long_o, c.feed_line-out.auto.openers)
 
 pub shape_of-labels-then-block_at : goal.shape_of-labels-then-block_at
 shape_of-labels-then-block_at c = let some : c.args.i < length c.args.starts.now = omega (arith, c.requires.behind.some, lines-length c.args.starts.now c.args.ends.now c.requires.starts_len) in
     let e = entered c.args.text.now (lines_of c.args.starts.now c.args.ends.now) c.args.i c.args.reading c.args.p c.args.queue.now c.args.openers.now c.args.labels.now c.requires.behind c.in-No.is c.requires.labels_in_bounds c.begin_line-out.result c.begin_line-out.ensures in
     let t = c.loop-left.invariant (stands c.args.p c.args.queue.now c.args.openers.now c.args.labels.now) e in
-    omega (arith, t.long_l, c.feed_line-out.auto.1.1.1.1.1.1.1.0)
+    omega (arith, t.long_l, c.feed_line-out.auto.labels)
 
 pub returns-then-block_at : goal.returns-then-block_at
 returns-then-block_at c = let some : c.args.i < length c.args.starts.now = omega (arith, c.requires.behind.some, lines-length c.args.starts.now c.args.ends.now c.requires.starts_len) in
     let e = entered c.args.text.now (lines_of c.args.starts.now c.args.ends.now) c.args.i c.args.reading c.args.p c.args.queue.now c.args.openers.now c.args.labels.now c.requires.behind c.in-No.is c.requires.labels_in_bounds c.begin_line-out.result c.begin_line-out.ensures in
     let t = c.loop-left.invariant (stands c.args.p c.args.queue.now c.args.openers.now c.args.labels.now) e in
-    walks_block c.args.text.now (lines_of c.args.starts.now c.args.ends.now) c.args.i c.args.reading (stands c.args.p c.args.queue.now c.args.openers.now c.args.labels.now) c.args.queue.now c.args.openers.now c.args.labels.now e.behind c.loop-left.queue c.loop-left.openers c.loop-left.labels c.loop-left.out c.loop-left.left t _ (lines_at c.args.starts.now c.args.ends.now c.args.i some (omega (arith, some, c.requires.starts_len))) c.feed_line-out.result c.feed_line-out.new.1.1.1.1.1.0 c.feed_line-out.new.1.1.1.1.1.1.0 c.feed_line-out.new.1.1.1.1.1.1.1.0 c.feed_line-out.ensures c.in-At.at c.in-At.is (sym c.block_at.ensures ∙ c.if-block_at.true)
+    walks_block c.args.text.now (lines_of c.args.starts.now c.args.ends.now) c.args.i c.args.reading (stands c.args.p c.args.queue.now c.args.openers.now c.args.labels.now) c.args.queue.now c.args.openers.now c.args.labels.now e.behind c.loop-left.queue c.loop-left.openers c.loop-left.labels c.loop-left.out c.loop-left.left t _ (lines_at c.args.starts.now c.args.ends.now c.args.i some (omega (arith, some, c.requires.starts_len))) c.feed_line-out.result c.feed_line-out.new.queue c.feed_line-out.new.openers c.feed_line-out.new.labels c.feed_line-out.ensures c.in-At.at c.in-At.is (sym c.block_at.ensures ∙ c.if-block_at.true)
 
 pub pass_brace-out-requires : goal.pass_brace-out-requires
 pass_brace-out-requires c = let some : c.args.i < length c.args.starts.now = omega (arith, c.requires.behind.some, lines-length c.args.starts.now c.args.ends.now c.requires.starts_len) in
     let e = entered c.args.text.now (lines_of c.args.starts.now c.args.ends.now) c.args.i c.args.reading c.args.p c.args.queue.now c.args.openers.now c.args.labels.now c.requires.behind c.in-No.is c.requires.labels_in_bounds c.begin_line-out.result c.begin_line-out.ensures in
     let t = c.loop-left.invariant (stands c.args.p c.args.queue.now c.args.openers.now c.args.labels.now) e in
-    walks-brace c.args.text.now (lines_of c.args.starts.now c.args.ends.now) c.args.i c.args.reading (stands c.args.p c.args.queue.now c.args.openers.now c.args.labels.now) c.args.queue.now c.args.openers.now c.args.labels.now e.behind c.loop-left.queue c.loop-left.openers c.loop-left.labels c.loop-left.out c.loop-left.left t _ (lines_at c.args.starts.now c.args.ends.now c.args.i some (omega (arith, some, c.requires.starts_len))) c.feed_line-out.result c.feed_line-out.new.1.1.1.1.1.0 c.feed_line-out.new.1.1.1.1.1.1.0 c.feed_line-out.new.1.1.1.1.1.1.1.0 c.feed_line-out.ensures c.in-At.at c.in-At.is (sym c.block_at.ensures ∙ c.if-block_at.false) c.feed_line-out.auto.1.1.1.1.1.0
+    walks-brace c.args.text.now (lines_of c.args.starts.now c.args.ends.now) c.args.i c.args.reading (stands c.args.p c.args.queue.now c.args.openers.now c.args.labels.now) c.args.queue.now c.args.openers.now c.args.labels.now e.behind c.loop-left.queue c.loop-left.openers c.loop-left.labels c.loop-left.out c.loop-left.left t _ (lines_at c.args.starts.now c.args.ends.now c.args.i some (omega (arith, some, c.requires.starts_len))) c.feed_line-out.result c.feed_line-out.new.queue c.feed_line-out.new.openers c.feed_line-out.new.labels c.feed_line-out.ensures c.in-At.at c.in-At.is (sym c.block_at.ensures ∙ c.if-block_at.false) c.feed_line-out.auto.queue
 
 pub overflow_sub-left-in-loop-left : goal.overflow_sub-left-in-loop-left
 overflow_sub-left-in-loop-left c = omega (arith, c.loop-left-test.true)
@@ -109,7 +107,7 @@ loop-left-smaller c = omega (arith, c.loop-left-test.true)
 
 pub loop-left-preserved : goal.loop-left-preserved
 loop-left-preserved c = let some : c.args.i < length c.args.starts.now = omega (arith, c.requires.behind.some, lines-length c.args.starts.now c.args.ends.now c.requires.starts_len) in
-    λ s e. walks_next c.args.text.now (lines_of c.args.starts.now c.args.ends.now) c.args.i c.args.reading s c.args.queue.now c.args.openers.now c.args.labels.now e.behind c.loop-left.queue c.loop-left.openers c.loop-left.labels c.loop-left.out c.loop-left.left (c.loop-left.invariant s e) _ (lines_at c.args.starts.now c.args.ends.now c.args.i some (omega (arith, some, c.requires.starts_len))) c.feed_line-out.result c.feed_line-out.new.1.1.1.1.1.0 c.feed_line-out.new.1.1.1.1.1.1.0 c.feed_line-out.new.1.1.1.1.1.1.1.0 c.feed_line-out.ensures c.in-At.at c.in-At.is (sym c.block_at.ensures ∙ c.if-block_at.false) c.loop-left-test.true c.pass_brace-out.result c.pass_brace-out.new.1.1.1.1.1.0 (c.pass_brace-out.ensures c.feed_line-out.new.1.1.1.1.1.1.0) c.feed_line-out.auto.1.1.1.1.1.0 c.feed_line-out.auto.1.1.1.1.1.1.0 c.feed_line-out.auto.1.1.1.1.1.1.1.0 c.pass_brace-out.auto.1.1.1.1.1.0
+    λ s e. walks_next c.args.text.now (lines_of c.args.starts.now c.args.ends.now) c.args.i c.args.reading s c.args.queue.now c.args.openers.now c.args.labels.now e.behind c.loop-left.queue c.loop-left.openers c.loop-left.labels c.loop-left.out c.loop-left.left (c.loop-left.invariant s e) _ (lines_at c.args.starts.now c.args.ends.now c.args.i some (omega (arith, some, c.requires.starts_len))) c.feed_line-out.result c.feed_line-out.new.queue c.feed_line-out.new.openers c.feed_line-out.new.labels c.feed_line-out.ensures c.in-At.at c.in-At.is (sym c.block_at.ensures ∙ c.if-block_at.false) c.loop-left-test.true c.pass_brace-out.result c.pass_brace-out.new.queue (c.pass_brace-out.ensures c.feed_line-out.new.openers) c.feed_line-out.auto.queue c.feed_line-out.auto.openers c.feed_line-out.auto.labels c.pass_brace-out.auto.queue
 
 pub shape_of-queue : goal.shape_of-queue
 shape_of-queue c = let some : c.args.i < length c.args.starts.now = omega (arith, c.requires.behind.some, lines-length c.args.starts.now c.args.ends.now c.requires.starts_len) in

@@ -6,4 +6,4 @@ pub put-requires : goal.put-requires
 put-requires c = record { fits = brace-fits c.args.text.now (record { start = c.args.start; end = c.args.end }) c.margin_of-m.result c.margin_of-m.ensures c.args.at c.args.p c.args.queue.now c.requires; room = brace-room c.args.text.now (record { start = c.args.start; end = c.args.end }) c.margin_of-m.result c.margin_of-m.ensures c.args.at c.args.p c.args.queue.now c.requires c.unrefused.result c.unrefused.ensures }
 
 pub returns : goal.returns
-returns c = λ o. brace-put c.args.text.now (record { start = c.args.start; end = c.args.end }) c.margin_of-m.result c.margin_of-m.ensures c.args.at c.args.p c.args.queue.now c.requires c.unrefused.result c.unrefused.ensures c.put.result c.put.new.1.1.1.1.1.0 o (c.put.ensures o)
+returns c = λ o. brace-put c.args.text.now (record { start = c.args.start; end = c.args.end }) c.margin_of-m.result c.margin_of-m.ensures c.args.at c.args.p c.args.queue.now c.requires c.unrefused.result c.unrefused.ensures c.put.result c.put.new.queue o (c.put.ensures o)

@@ -30,7 +30,7 @@ pub loop-left-smaller : goal.loop-left-smaller
 loop-left-smaller c = omega (arith, c.loop-left-test.true)
 
 pub loop-left-preserved : goal.loop-left-preserved
-loop-left-preserved c = turns_next c.args.text.now c.args.line.now c.args.m c.args.reading c.args.queue.now c.args.openers.now c.args.labels.now c.args.p c.loop-left.queue c.loop-left.openers c.loop-left.labels c.loop-left.out c.loop-left.left c.loop-left.invariant c.loop-left-test.true (sym c.over.ensures ∙ c.if-over.false) c.parse_event-out.result c.parse_event-out.new.1.1.1.1.1.0 c.parse_event-out.new.1.1.1.1.1.1.0 c.parse_event-out.new.1.1.1.1.1.1.1.0 c.parse_event-out.ensures c.parse_event-out.auto.1.1.1.1.1.0 c.parse_event-out.auto.1.1.1.1.1.1.0 c.parse_event-out.auto.1.1.1.1.1.1.1.0
+loop-left-preserved c = turns_next c.args.text.now c.args.line.now c.args.m c.args.reading c.args.queue.now c.args.openers.now c.args.labels.now c.args.p c.loop-left.queue c.loop-left.openers c.loop-left.labels c.loop-left.out c.loop-left.left c.loop-left.invariant c.loop-left-test.true (sym c.over.ensures ∙ c.if-over.false) c.parse_event-out.result c.parse_event-out.new.queue c.parse_event-out.new.openers c.parse_event-out.new.labels c.parse_event-out.ensures c.parse_event-out.auto.queue c.parse_event-out.auto.openers c.parse_event-out.auto.labels
 
 pub shape_of-queue : goal.shape_of-queue
 shape_of-queue c = c.loop-left.invariant.long_q

@@ -8,4 +8,4 @@ returns c = let args = c.args in
     let clear = c.clear in
     let clear-work = c.clear_work in
     let clear-bytes = c.clear_bytes in
-    refused_all args.events.now args.queue.now args.openers.now args.labels.now args.code args.place refusal.result (clear.new.0) (clear-work.new.0) (clear-work.new.1.0) (clear-bytes.new.0) refusal.ensures clear.ensures clear-work.ensures.0 clear-work.ensures.1 clear-bytes.ensures
+    refused_all args.events.now args.queue.now args.openers.now args.labels.now args.code args.place refusal.result (clear.new.room) (clear-work.new.room) (clear-work.new.openers) (clear-bytes.new.room) refusal.ensures clear.ensures clear-work.ensures.0 clear-work.ensures.1 clear-bytes.ensures

@@ -23,7 +23,7 @@ parse_container-requires c = record { ready = c.requires.ready; label_room = c.r
 
 pub returns-in-Backticks : goal.returns-in-Backticks
 returns-in-Backticks c rules = let x = sheet_of rules c.args.text.now c.args.labels.now in
-    by-role x (viewed c.args.m c.args.line.now) (here c.args.h c.args.p) c.args.p c.args.queue.now c.args.openers.now c.args.labels.now c.backticks.result c.backticks.new.1.1.1.1.0 c.args.openers.now c.requires.label_room.labels c.args.role _ c.in-Backticks.is
+    by-role x (viewed c.args.m c.args.line.now) (here c.args.h c.args.p) c.args.p c.args.queue.now c.args.openers.now c.args.labels.now c.backticks.result c.backticks.new.queue c.args.openers.now c.requires.label_room.labels c.args.role _ c.in-Backticks.is
     (c.backticks.ensures x c.args.openers.now)
 
 pub returns-in-Brace : goal.returns-in-Brace
@@ -31,34 +31,34 @@ returns-in-Brace c rules = as-brace rules c.args.text.now c.args.m c.args.line.n
 
 pub returns-in-Lt : goal.returns-in-Lt
 returns-in-Lt c rules = let x = sheet_of rules c.args.text.now c.args.labels.now in
-    by-role x (viewed c.args.m c.args.line.now) (here c.args.h c.args.p) c.args.p c.args.queue.now c.args.openers.now c.args.labels.now c.parse_autolink.result c.parse_autolink.new.1.1.1.1.0 c.args.openers.now c.requires.label_room.labels c.args.role _ c.in-Lt.is
+    by-role x (viewed c.args.m c.args.line.now) (here c.args.h c.args.p) c.args.p c.args.queue.now c.args.openers.now c.args.labels.now c.parse_autolink.result c.parse_autolink.new.queue c.args.openers.now c.requires.label_room.labels c.args.role _ c.in-Lt.is
     (c.parse_autolink.ensures x c.args.openers.now)
 
 pub returns-in-Colon : goal.returns-in-Colon
 returns-in-Colon c rules = let x = sheet_of rules c.args.text.now c.args.labels.now in
-    by-role x (viewed c.args.m c.args.line.now) (here c.args.h c.args.p) c.args.p c.args.queue.now c.args.openers.now c.args.labels.now c.parse_symbol.result c.parse_symbol.new.1.1.1.1.0 c.args.openers.now c.requires.label_room.labels c.args.role _ c.in-Colon.is
+    by-role x (viewed c.args.m c.args.line.now) (here c.args.h c.args.p) c.args.p c.args.queue.now c.args.openers.now c.args.labels.now c.parse_symbol.result c.parse_symbol.new.queue c.args.openers.now c.requires.label_room.labels c.args.role _ c.in-Colon.is
     (c.parse_symbol.ensures x c.args.openers.now)
 
 pub returns-in-Bracket : goal.returns-in-Bracket
 returns-in-Bracket c rules = let x = sheet_of rules c.args.text.now c.args.labels.now in
-    by-role x (viewed c.args.m c.args.line.now) (here c.args.h c.args.p) c.args.p c.args.queue.now c.args.openers.now c.args.labels.now c.parse_footnote_reference.result c.parse_footnote_reference.new.1.1.1.1.0 c.parse_footnote_reference.new.1.1.1.1.1.0 c.requires.label_room.labels c.args.role _ c.in-Bracket.is
+    by-role x (viewed c.args.m c.args.line.now) (here c.args.h c.args.p) c.args.p c.args.queue.now c.args.openers.now c.args.labels.now c.parse_footnote_reference.result c.parse_footnote_reference.new.queue c.parse_footnote_reference.new.openers c.requires.label_room.labels c.args.role _ c.in-Bracket.is
     (c.parse_footnote_reference.ensures x)
 
 pub returns-in-Paren : goal.returns-in-Paren
 returns-in-Paren c rules = let x = sheet_of rules c.args.text.now c.args.labels.now in
-    by-role x (viewed c.args.m c.args.line.now) (here c.args.h c.args.p) c.args.p c.args.queue.now c.args.openers.now c.args.labels.now c.put.result c.put.new.1.1.1.1.1.0 c.args.openers.now c.requires.label_room.labels c.args.role _ c.in-Paren.is
-    (paren x c.args.m c.args.line.now c.args.h c.args.p c.args.queue.now c.args.openers.now c.put.result c.put.new.1.1.1.1.1.0
-    (alone x (viewed c.args.m c.args.line.now) c.args.h c.args.p c.args.queue.now c.args.openers.now c.put.result c.put.new.1.1.1.1.1.0 (c.put.ensures c.args.openers.now)))
+    by-role x (viewed c.args.m c.args.line.now) (here c.args.h c.args.p) c.args.p c.args.queue.now c.args.openers.now c.args.labels.now c.put.result c.put.new.queue c.args.openers.now c.requires.label_room.labels c.args.role _ c.in-Paren.is
+    (paren x c.args.m c.args.line.now c.args.h c.args.p c.args.queue.now c.args.openers.now c.put.result c.put.new.queue
+    (alone x (viewed c.args.m c.args.line.now) c.args.h c.args.p c.args.queue.now c.args.openers.now c.put.result c.put.new.queue (c.put.ensures c.args.openers.now)))
 
 pub returns-in-Periods : goal.returns-in-Periods
 returns-in-Periods c rules = let x = sheet_of rules c.args.text.now c.args.labels.now in
-    by-role x (viewed c.args.m c.args.line.now) (here c.args.h c.args.p) c.args.p c.args.queue.now c.args.openers.now c.args.labels.now c.dots.result c.dots.new.1.1.1.1.0 c.args.openers.now c.requires.label_room.labels c.args.role _ c.in-Periods.is
-    (periods x c.args.m c.args.line.now c.args.h c.args.p c.args.queue.now c.args.openers.now c.dots.result c.dots.new.1.1.1.1.0 (c.dots.ensures c.args.openers.now))
+    by-role x (viewed c.args.m c.args.line.now) (here c.args.h c.args.p) c.args.p c.args.queue.now c.args.openers.now c.args.labels.now c.dots.result c.dots.new.queue c.args.openers.now c.requires.label_room.labels c.args.role _ c.in-Periods.is
+    (periods x c.args.m c.args.line.now c.args.h c.args.p c.args.queue.now c.args.openers.now c.dots.result c.dots.new.queue (c.dots.ensures c.args.openers.now))
 
 pub returns-in-Hyphens : goal.returns-in-Hyphens
 returns-in-Hyphens c rules = let x = sheet_of rules c.args.text.now c.args.labels.now in
-    by-role x (viewed c.args.m c.args.line.now) (here c.args.h c.args.p) c.args.p c.args.queue.now c.args.openers.now c.args.labels.now c.hyphens.result c.hyphens.new.1.1.1.1.0 c.args.openers.now c.requires.label_room.labels c.args.role _ c.in-Hyphens.is
+    by-role x (viewed c.args.m c.args.line.now) (here c.args.h c.args.p) c.args.p c.args.queue.now c.args.openers.now c.args.labels.now c.hyphens.result c.hyphens.new.queue c.args.openers.now c.requires.label_room.labels c.args.role _ c.in-Hyphens.is
     (c.hyphens.ensures x c.args.openers.now)
 
 pub returns-in-Other : goal.returns-in-Other
-returns-in-Other c rules = as-other (sheet_of rules c.args.text.now c.args.labels.now) (viewed c.args.m c.args.line.now) (here c.args.h c.args.p) c.args.p c.args.queue.now c.args.openers.now c.args.labels.now c.parse_container.result c.parse_container.new.1.1.1.1.1.1.0 c.parse_container.new.1.1.1.1.1.1.1.0 c.parse_container.new.1.1.1.1.1.1.1.1.0 c.args.role _ c.in-Other.is (c.parse_container.ensures rules)
+returns-in-Other c rules = as-other (sheet_of rules c.args.text.now c.args.labels.now) (viewed c.args.m c.args.line.now) (here c.args.h c.args.p) c.args.p c.args.queue.now c.args.openers.now c.args.labels.now c.parse_container.result c.parse_container.new.queue c.parse_container.new.openers c.parse_container.new.labels c.args.role _ c.in-Other.is (c.parse_container.ensures rules)

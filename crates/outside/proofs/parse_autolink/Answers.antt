@@ -10,17 +10,16 @@ use Rattle.outside.proofs.parse_autolink.Goals as goal
 
 pub returns-in_default : goal.returns-in_default
 returns-in_default c x o = let v = viewed c.args.m c.args.line.now in
-    angle-else x v (here c.args.h c.args.p) c.args.p c.args.queue.now o c.put.result c.put.new.1.1.1.1.1.0 o
+    angle-else x v (here c.args.h c.args.p) c.args.p c.args.queue.now o c.put.result c.put.new.queue o
     (sym c.ahead_autolink.ensures ∙ c.in_default.is)
-    (alone x v c.args.h c.args.p c.args.queue.now o c.put.result c.put.new.1.1.1.1.1.0 (c.put.ensures o))
+    (alone x v c.args.h c.args.p c.args.queue.now o c.put.result c.put.new.queue (c.put.ensures o))
 
 pub autolinked-requires : goal.autolinked-requires
 autolinked-requires c = let e = sym c.ahead_autolink.ensures ∙ c.in-Some.is in
     let s = drop c.args.h.to c.args.line.now in
     let w = scan-within c.args.line.now c.args.h.to _ (autolink-some s _ e).within c.requires.token_ready.within in
-    (omega (arith, c.requires.token_ready.long), (omega (arith, w, c.requires.token_ready.small), omega (arith, w, autolink-long s _ e, c.requires.token_ready.room, c.requires.token_ready.long)))
--- asked: ['from_le_to', 'n_bound', 'room']
+    record { from_le_to = omega (arith, c.requires.token_ready.long); n_bound = omega (arith, w, c.requires.token_ready.small); room = omega (arith, w, autolink-long s _ e, c.requires.token_ready.room, c.requires.token_ready.long) }
 
 pub returns : goal.returns
-returns c x o = angle-some x (viewed c.args.m c.args.line.now) (here c.args.h c.args.p) c.args.p c.args.queue.now o c.autolinked.result c.autolinked.new.1.1.1.1.0 o
+returns c x o = angle-some x (viewed c.args.m c.args.line.now) (here c.args.h c.args.p) c.args.p c.args.queue.now o c.autolinked.result c.autolinked.new.queue o
     _ (sym c.ahead_autolink.ensures ∙ c.in-Some.is) (c.autolinked.ensures o c.args.line.now)

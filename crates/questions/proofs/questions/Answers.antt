@@ -17,8 +17,7 @@ check_lines-lines-requires c = let args = c.args in
     let longer = c.longer in
     let limits = c.limits-limit in
     let if1 = c.if-limit-ne0 in
-    let k = limit-kept args.text.now (lines_of args.starts.now args.ends.now) args.reading args.queue args.openers longer.result limits.result (long-lines args.starts.now args.ends.now longer.result longer.ensures) limits.ensures if1.false in (k.0, omega (arith, k.1, (long-lines args.starts.now args.ends.now longer.result longer.ensures)))
--- asked: ['text_len_bound', 'ends_len_bound']
+    let k = limit-kept args.text.now (lines_of args.starts.now args.ends.now) args.reading args.queue args.openers longer.result limits.result (long-lines args.starts.now args.ends.now longer.result longer.ensures) limits.ensures if1.false in record { text_len_bound = k.0; ends_len_bound = omega (arith, k.1, (long-lines args.starts.now args.ends.now longer.result longer.ensures)) }
 
 pub returns : goal.returns
 returns c = let args = c.args in

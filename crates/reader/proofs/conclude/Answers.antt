@@ -6,8 +6,7 @@ use Rattle.reader.proofs.conclude.Goals as goal
 
 pub accept-requires : goal.accept-requires
 accept-requires c = let k = counted-all c.args.drained c.in-All.count c.args.bytes c.args.events.now c.args.labels.now c.requires c.in-All.is in
-    (k.0, (k.1, (k.2, k.3)))
--- asked: ['event_numbers_in_bounds', 'count_bound', 'bytes_in_bounds', 'bytes_bound']
+    record { event_numbers_in_bounds = k.0; count_bound = k.1; bytes_in_bounds = k.2; bytes_bound = k.3 }
 
 pub returns-in-All : goal.returns-in-All
 returns-in-All c = c.accept.ensures ∙ drained-all c.args.drained c.in-All.count c.args.bytes (rooms_of c.args.events.now c.args.queue.now c.args.openers.now c.args.labels.now) c.in-All.is

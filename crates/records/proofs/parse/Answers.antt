@@ -27,7 +27,7 @@ pub finish-requires : goal.finish-requires
 finish-requires c = record { end_bound = end-small c.args.text.now c.args.lines.now c.args.reading c.args.queue.now c.args.openers.now c.args.labels.now (c.requires) c.loop-i.queue c.loop-i.openers c.loop-i.labels c.loop-i.p c.loop-i.end c.loop-i.i c.loop-i.invariant (omega (arith, c.loop-i-test.false, c.line_count-n.ensures)); room = end-room c.args.text.now c.args.lines.now c.args.reading c.args.queue.now c.args.openers.now c.args.labels.now (c.requires) c.loop-i.queue c.loop-i.openers c.loop-i.labels c.loop-i.p c.loop-i.end c.loop-i.i c.loop-i.invariant (omega (arith, c.loop-i-test.false, c.line_count-n.ensures)); closing = end-closing c.args.text.now c.args.lines.now c.args.reading c.args.queue.now c.args.openers.now c.args.labels.now (c.requires) c.loop-i.queue c.loop-i.openers c.loop-i.labels c.loop-i.p c.loop-i.end c.loop-i.i c.loop-i.invariant (omega (arith, c.loop-i-test.false, c.line_count-n.ensures)) }
 
 pub shape_of-queue : goal.shape_of-queue
-shape_of-queue c = omega (arith, (c.finish.auto.1.1.0), c.loop-i.invariant.long_q)
+shape_of-queue c = omega (arith, (c.finish.auto.queue), c.loop-i.invariant.long_q)
 
 pub shape_of-openers : goal.shape_of-openers
 shape_of-openers c = c.loop-i.invariant.long_o
@@ -36,4 +36,4 @@ pub shape_of-labels : goal.shape_of-labels
 shape_of-labels c = c.loop-i.invariant.long_l
 
 pub returns : goal.returns
-returns c = head-last c.args.text.now c.args.lines.now c.args.reading c.args.queue.now c.args.openers.now c.args.labels.now (c.requires) c.loop-i.queue c.loop-i.openers c.loop-i.labels c.loop-i.p c.loop-i.end c.loop-i.i c.loop-i.invariant (omega (arith, c.loop-i-test.false, c.line_count-n.ensures)) c.finish.result c.finish.new.1.1.0 (c.finish.ensures c.loop-i.openers)
+returns c = head-last c.args.text.now c.args.lines.now c.args.reading c.args.queue.now c.args.openers.now c.args.labels.now (c.requires) c.loop-i.queue c.loop-i.openers c.loop-i.labels c.loop-i.p c.loop-i.end c.loop-i.i c.loop-i.invariant (omega (arith, c.loop-i-test.false, c.line_count-n.ensures)) c.finish.result c.finish.new.queue (c.finish.ensures c.loop-i.openers)

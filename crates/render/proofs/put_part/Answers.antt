@@ -18,8 +18,7 @@ loop-i-init c = let smaller = c.smaller-end in
 pub put_plain-k-requires : goal.put_plain-k-requires
 put_plain-k-requires c = let loop-test = c.loop-i-test in
     let loop = c.loop-i in
-    (omega (arith, loop-test.true), (omega (arith, loop.invariant.0), omega (arith, loop.invariant.1.within, loop.invariant.1.size)))
--- asked: ['from_le_end', 'end_in_bounds', 'at_in_bounds']
+    record { from_le_end = omega (arith, loop-test.true); end_in_bounds = omega (arith, loop.invariant.0); at_in_bounds = omega (arith, loop.invariant.1.within, loop.invariant.1.size) }
 
 pub overflow_add-n : goal.overflow_add-n
 overflow_add-n c = let put-plain = c.put_plain-k in
@@ -47,8 +46,8 @@ returns-in_default c = let args = c.args in
     let if1 = c.if-i-end in
     let put-escaped = c.put_escaped in
     let enum_told = c.enum_told-1 in
-    part-full args.text.now (loop.i + put-plain.result) args.to (part-plain args.text.now loop.i args.to loop.invariant.1 put-plain.result (omega (arith, loop.invariant.0, put-plain.ensures.0)) (put-plain.new.1.1.1.0) put-plain.ensures.1)
-    (omega (arith, loop.invariant.0, if1.true)) put-escaped.result (put-escaped.new.0) put-escaped.ensures enum_told.given.1
+    part-full args.text.now (loop.i + put-plain.result) args.to (part-plain args.text.now loop.i args.to loop.invariant.1 put-plain.result (omega (arith, loop.invariant.0, put-plain.ensures.0)) (put-plain.new.h) put-plain.ensures.1)
+    (omega (arith, loop.invariant.0, if1.true)) put-escaped.result (put-escaped.new.out) put-escaped.ensures enum_told.given.1
 
 pub loop-i-smaller-then-i-end : goal.loop-i-smaller-then-i-end
 loop-i-smaller-then-i-end c = let if1 = c.if-i-end in
@@ -63,8 +62,8 @@ loop-i-preserved-then-i-end c = let loop = c.loop-i in
     let put-escaped = c.put_escaped in
     let next = c.next-1 in (
       loop.invariant.0,
-      part-turn args.text.now (loop.i + put-plain.result) args.to (part-plain args.text.now loop.i args.to loop.invariant.1 put-plain.result (omega (arith, loop.invariant.0, put-plain.ensures.0)) (put-plain.new.1.1.1.0) put-plain.ensures.1)
-          (omega (arith, loop.invariant.0, if1.true)) put-escaped.result (put-escaped.new.0) put-escaped.ensures next.given.0.0 next.given.1,
+      part-turn args.text.now (loop.i + put-plain.result) args.to (part-plain args.text.now loop.i args.to loop.invariant.1 put-plain.result (omega (arith, loop.invariant.0, put-plain.ensures.0)) (put-plain.new.h) put-plain.ensures.1)
+          (omega (arith, loop.invariant.0, if1.true)) put-escaped.result (put-escaped.new.out) put-escaped.ensures next.given.0.0 next.given.1,
     )
 
 pub loop-i-smaller : goal.loop-i-smaller
@@ -76,7 +75,7 @@ pub loop-i-preserved : goal.loop-i-preserved
 loop-i-preserved c = let loop = c.loop-i in
     let args = c.args in
     let put-plain = c.put_plain-k in
-    (loop.invariant.0, part-plain args.text.now loop.i args.to loop.invariant.1 put-plain.result (omega (arith, loop.invariant.0, put-plain.ensures.0)) (put-plain.new.1.1.1.0) put-plain.ensures.1)
+    (loop.invariant.0, part-plain args.text.now loop.i args.to loop.invariant.1 put-plain.result (omega (arith, loop.invariant.0, put-plain.ensures.0)) (put-plain.new.h) put-plain.ensures.1)
 
 pub shape_of-out : goal.shape_of-out
 shape_of-out c = let loop = c.loop-i in

@@ -29,8 +29,7 @@ shape_of-out-then-b c = let loop = c.loop-k in
 pub returns-then-b : goal.returns-then-b
 returns-then-b c = let loop = c.loop-k in
     let pre = c.requires in
-    (omega (arith, loop.invariant.0, loop.invariant.1, pre.0), loop.invariant.2)
--- asked: ['result_bound', 'wrote']
+    record { result_bound = omega (arith, loop.invariant.0, loop.invariant.1, pre.0); wrote = loop.invariant.2 }
 
 pub bounds-out-at : goal.bounds-out-at
 bounds-out-at c = let loop = c.loop-k in
@@ -53,5 +52,4 @@ shape_of-out c = let loop = c.loop-k in
 pub returns : goal.returns
 returns c = let loop = c.loop-k in
     let pre = c.requires in
-    (omega (arith, loop.invariant.0, loop.invariant.1, pre.0), loop.invariant.2)
--- asked: ['result_bound', 'wrote']
+    record { result_bound = omega (arith, loop.invariant.0, loop.invariant.1, pre.0); wrote = loop.invariant.2 }

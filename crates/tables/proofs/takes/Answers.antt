@@ -1,4 +1,5 @@
 -- `tables::takes` meets its contract: no other role is a bracket.
+use borrow.Enum.Refused.{opened}
 use Rattle.reading.specs.Containers.{takes}
 use Rattle.tables.specs.Tables.{taken_as}
 use Rattle.tables.proofs.Roles.{takes_none}
@@ -13,4 +14,4 @@ unfolding takes taken_as
 returns-in-Paren c = rw c.in-Paren.is
 
 pub returns-in_default : goal.returns-in_default
-returns-in_default c = takes_none c.args.r c.in_default.in_default-own.keys3
+returns-in_default c = takes_none c.args.r (opened c.in_default.in_default-own.keys3)

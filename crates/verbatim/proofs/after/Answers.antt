@@ -3,4 +3,4 @@ use Rattle.verbatim.proofs.Answers.{after_is}
 use Rattle.verbatim.proofs.after.Goals as goal
 
 pub returns : goal.returns
-returns c = after_is c.args.reading c.args.own_val
+returns c = after_is c.args.reading c.args.own

@@ -8,8 +8,8 @@ closes_raw-requires c = record { from_le_to = c.requires.fits.ordered; n_bound =
 
 pub returns-in-Some : goal.returns-in-Some
 returns-in-Some c o = closes-change c.args.reading c.args.line.now c.args.m c.args.h c.args.w c.args.p c.after.result c.after.ensures c.flagged-c.result c.flagged-c.ensures c.peek_token-peeked.result c.peek_token-peeked.ensures
-    c.format_ahead.result (c.format_ahead.ensures c.args.m) (ahead.Some c.in-Some.n) c.in-Some.is c.args.queue.now o c.closes_raw.result c.closes_raw.new.1.1.1.1.1.0 (c.closes_raw.ensures o c.args.line.now c.peek_token-peeked.result.cursor)
+    c.format_ahead.result (c.format_ahead.ensures c.args.m) (ahead.Some c.in-Some.n) c.in-Some.is c.args.queue.now o c.closes_raw.result c.closes_raw.new.queue (c.closes_raw.ensures o c.args.line.now c.peek_token-peeked.result.cursor)
 
 pub returns-in-None : goal.returns-in-None
 returns-in-None c o = closes-change c.args.reading c.args.line.now c.args.m c.args.h c.args.w c.args.p c.after.result c.after.ensures c.flagged-c.result c.flagged-c.ensures c.peek_token-peeked.result c.peek_token-peeked.ensures
-    c.format_ahead.result (c.format_ahead.ensures c.args.m) ahead.None c.in-None.is c.args.queue.now o c.closes_plain.result c.closes_plain.new.1.1.1.1.1.0 (c.closes_plain.ensures o c.args.line.now)
+    c.format_ahead.result (c.format_ahead.ensures c.args.m) ahead.None c.in-None.is c.args.queue.now o c.closes_plain.result c.closes_plain.new.queue (c.closes_plain.ensures o c.args.line.now)

@@ -11,8 +11,7 @@ overflow_sub-n c = dollars-some c.args.dollars c.args.n c.args.queue.now c.requi
 
 pub shorten-requires : goal.shorten-requires
 shorten-requires c = let few = dollars-some c.args.dollars c.args.n c.args.queue.now c.requires.dollars c.if-dollars-eq0.false in
-    (omega (arith, few, c.requires.queue_numbers_in_bounds), dollars-within c.args.dollars c.args.n c.args.queue.now c.requires.dollars c.if-dollars-eq0.false)
--- asked: ['queue_numbers_in_bounds', 'bytes_bound']
+    record { queue_numbers_in_bounds = omega (arith, few, c.requires.queue_numbers_in_bounds); bytes_bound = dollars-within c.args.dollars c.args.n c.args.queue.now c.requires.dollars c.if-dollars-eq0.false }
 
 pub returns : goal.returns
 returns c = left-some c.args.dollars c.args.n c.args.queue.now c.requires.dollars c.if-dollars-eq0.false c.shorten.new.queue c.shorten.ensures

@@ -13,7 +13,7 @@ pub show-shown-requires : goal.show-shown-requires
 show-shown-requires c = c.requires.room c.if-a-ne0.false
 
 pub judge-requires : goal.judge-requires
-judge-requires c = shown-fits (first_barred (listed c.args.a.events c.args.events.now)) (fragment c.args.text.now (listed c.args.a.events c.args.events.now)) c.args.out.now c.show-shown.result (c.show-shown.new.1.1.1.0) c.show-shown.ensures (c.requires.few c.if-a-ne0.false)
+judge-requires c = shown-fits (first_barred (listed c.args.a.events c.args.events.now)) (fragment c.args.text.now (listed c.args.a.events c.args.events.now)) c.args.out.now c.show-shown.result (c.show-shown.new.out) c.show-shown.ensures (c.requires.few c.if-a-ne0.false)
 
 pub returns : goal.returns
-returns c = concluded-late c.args.text.now (listed c.args.a.events c.args.events.now) (rooms_of c.args.events.now c.args.queue.now c.args.openers.now c.args.labels.now) c.args.a c.args.out.now c.show-shown.result (c.show-shown.new.1.1.1.0) c.judge.result _ c.if-a-ne0.false c.show-shown.ensures c.judge.ensures
+returns c = concluded-late c.args.text.now (listed c.args.a.events c.args.events.now) (rooms_of c.args.events.now c.args.queue.now c.args.openers.now c.args.labels.now) c.args.a c.args.out.now c.show-shown.result (c.show-shown.new.out) c.judge.result _ c.if-a-ne0.false c.show-shown.ensures c.judge.ensures

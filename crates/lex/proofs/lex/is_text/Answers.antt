@@ -1,4 +1,5 @@
 -- `lex::lex::is_text` meets its contract: no other kind is Text.
+use borrow.Enum.Refused.{opened}
 use mathlib.Core.Path.{◌≡◌, refl}
 use mathlib.Core.List.{[], ◌∷◌}
 use mathlib.Core.Bool.{false}
@@ -22,4 +23,4 @@ other (Sym y) h = refl
 other (Seq q) h = refl
 
 pub returns-in_default : goal.returns-in_default
-returns-in_default c = other c.args.t.kind c.in_default.in_default-own.keys2
+returns-in_default c = other c.args.t.kind (opened c.in_default.in_default-own.keys2)

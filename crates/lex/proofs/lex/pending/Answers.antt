@@ -4,6 +4,7 @@ use mathlib.Core.List.{[], ◌∷◌}
 use mathlib.Core.Bool.{false}
 use Rattle.lex.specs.declared.lex.Kind.{Kind}
 use Rattle.lex.specs.declared.lex.Kind.TheVariants.{Text, Newline, Nbsp, Hardbreak, Escape, Open, Close, Sym, Seq}
+use borrow.Enum.Refused.{opened}
 use types.Run.{OneOf, miss}
 use denote.Enum.Declared.{tag_of}
 use Rattle.lex.specs.Lexer.{is_escape}
@@ -22,4 +23,4 @@ other (Sym y) h = refl
 other (Seq q) h = refl
 
 pub returns-in_default-kind : goal.returns-in_default-kind
-returns-in_default-kind c = rw (c.in-Some.is, other _ c.in_default-kind.in_default-kind-own.keys2)
+returns-in_default-kind c = rw (c.in-Some.is, other _ (opened c.in_default-kind.in_default-kind-own.keys2))

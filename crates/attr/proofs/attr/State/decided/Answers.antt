@@ -1,4 +1,5 @@
 -- `attr::attr::State::decided` meets its contract: the test is computed over what a pattern lists.
+use borrow.Enum.Refused.{opened}
 use mathlib.Core.Path.{refl, sym}
 use mathlib.Core.List.{[], ◌∷◌}
 use mathlib.Core.Bool.{not}
@@ -16,4 +17,4 @@ unfolding is_decided all
 returns-in_default c = sym
     (not-true _
     (listed-true (λ s. not (is_decided s)) (0 ∷ 1 ∷ 2 ∷ 3 ∷ 4 ∷ 5 ∷ 6 ∷ 7 ∷ 8 ∷ 9 ∷ 10 ∷ 11 ∷ 12 ∷ 13 ∷ 14 ∷ 15 ∷ []) c.args.self refl
-    c.in_default.in_default-own.keys2))
+    (opened c.in_default.in_default-own.keys2)))

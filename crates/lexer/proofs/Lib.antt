@@ -1,3 +1,0 @@
-pub mod Parts
-pub mod Asked
-pub mod Shown
