@@ -11,7 +11,7 @@ returns-in_default c = span-full c.args.e c.args.prev c.requires.at_in_bounds c.
 
 pub put_home-requires : goal.put_home-requires
 put_home-requires c = let x = span_less c.args.e c.args.prev c.requires.at_in_bounds c.put_span.result c.put_span.new.out c.put_span.ensures c.in-To.a c.in-To.is in
-    record { at_in_bounds = omega (arith, x.within, x.size); home_start_bound = c.requires.1.range }
+    record { at_in_bounds = omega (arith, x.within, x.size); home_start_bound = c.requires.forward.range }
 
 pub returns-in_default-put_home : goal.returns-in_default-put_home
 returns-in_default-put_home c = home-full c.args.e c.args.prev c.requires.at_in_bounds c.put_span.result c.put_span.new.out c.put_span.ensures c.in-To.a c.in-To.is

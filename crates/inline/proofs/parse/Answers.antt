@@ -17,7 +17,7 @@ pub parse_line-p-requires : goal.parse_line-p-requires
 parse_line-p-requires c = record { starts_len = c.requires.starts_len; behind = head-behind c.args.text.now (lines_of c.args.starts.now c.args.ends.now) c.args.reading c.args.queue.now c.args.openers.now c.args.labels.now c.requires.sheeted c.loop-i.queue c.loop-i.openers c.loop-i.labels c.loop-i.p c.loop-i.end c.loop-i.i c.loop-i.invariant (omega (arith, c.loop-i-test.true, lines-length c.args.starts.now c.args.ends.now c.requires.starts_len)); labels_in_bounds = c.loop-i.invariant.labels; ruled = c.classes-flags.ensures }
 
 pub overflow_add-i : goal.overflow_add-i
-overflow_add-i c = omega (arith, c.loop-i-test.true, c.requires.1.listed, lines-length c.args.starts.now c.args.ends.now c.requires.starts_len)
+overflow_add-i c = omega (arith, c.loop-i-test.true, c.requires.sheeted.listed, lines-length c.args.starts.now c.args.ends.now c.requires.starts_len)
 
 pub loop-i-smaller : goal.loop-i-smaller
 loop-i-smaller c = omega (arith, c.loop-i-test.true)
