@@ -26,10 +26,10 @@ loop-left-smaller c = omega (arith, c.loop-left-test.true)
 
 pub loop-left-preserved : goal.loop-left-preserved
 loop-left-preserved c = (
-      left-turn c.args.m.base c.args.kind c.args.w c.args.n c.args.i _ c.args.queue.now c.loop-left.out c.loop-left.queue c.loop-left.at c.loop-left.left c.loop-left.invariant.0 c.loop-left-test.true
-          c.homed.result (homed-as c.homed.result _ _ _ _ _ c.homed.ensures c.nowhere.ensures) _ c.no_str-none.ensures c.push-out.result _ c.push-out.auto.queue c.push-out.ensures,
-      ap (λ (a : Turn). a.state.last) ((c.push-out.ensures []).same []),
-    )
+  left-turn c.args.m.base c.args.kind c.args.w c.args.n c.args.i _ c.args.queue.now c.loop-left.out c.loop-left.queue c.loop-left.at c.loop-left.left c.loop-left.invariant.0 c.loop-left-test.true
+      c.homed.result (homed-as c.homed.result _ _ _ _ _ c.homed.ensures c.nowhere.ensures) _ c.no_str-none.ensures c.push-out.result _ c.push-out.auto.queue c.push-out.ensures,
+  ap (λ (a : Turn). a.state.last) ((c.push-out.ensures []).same []),
+)
 
 pub shape_of-queue : goal.shape_of-queue
 shape_of-queue c = c.loop-left.invariant.0.long

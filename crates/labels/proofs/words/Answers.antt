@@ -14,9 +14,9 @@ use Rattle.labels.proofs.words.Goals as goal
 
 pub loop-i-init : goal.loop-i-init
 loop-i-init c = (
-      refl,
-      filled_none c.args.labels.now c.args.used (λ y. words_of c.args.text.now (drop c.args.from (events c.args.n c.args.queue.now))) true c.requires.used_in_bounds refl,
-    )
+  refl,
+  filled_none c.args.labels.now c.args.used (λ y. words_of c.args.text.now (drop c.args.from (events c.args.n c.args.queue.now))) true c.requires.used_in_bounds refl,
+)
 
 pub word-built-requires : goal.word-built-requires
 word-built-requires c = omega (arith, c.loop-i.invariant.1.room, c.loop-i.invariant.1.length_kept)
@@ -32,10 +32,10 @@ returns-then-not-built c = filled-stuck
 
 pub loop-i-preserved : goal.loop-i-preserved
 loop-i-preserved c = (
-      not-false _ c.if-not-built.false,
-      words-turn c.args.text.now c.args.queue.now c.args.n c.loop-i.i c.loop-i.invariant.1 c.event_at-e.result c.loop-i-test.true c.loop-i.invariant.0 c.event_at-e.ensures
-          c.word-built.ensures,
-    )
+  not-false _ c.if-not-built.false,
+  words-turn c.args.text.now c.args.queue.now c.args.n c.loop-i.i c.loop-i.invariant.1 c.event_at-e.result c.loop-i-test.true c.loop-i.invariant.0 c.event_at-e.ensures
+      c.word-built.ensures,
+)
 
 pub shape_of-labels : goal.shape_of-labels
 shape_of-labels c = c.loop-i.invariant.1.length_kept

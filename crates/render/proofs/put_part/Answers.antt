@@ -36,10 +36,10 @@ loop-i-smaller-then-i-end c = omega (arith, c.if-i-end.true, c.loop-i-test.true)
 
 pub loop-i-preserved-then-i-end : goal.loop-i-preserved-then-i-end
 loop-i-preserved-then-i-end c = (
-      c.loop-i.invariant.0,
-      part-turn c.args.text.now (c.loop-i.i + c.put_plain-k.result) c.args.to (part-plain c.args.text.now c.loop-i.i c.args.to c.loop-i.invariant.1 c.put_plain-k.result (omega (arith, c.loop-i.invariant.0, c.put_plain-k.ensures.result_bound)) (c.put_plain-k.new.out) c.put_plain-k.ensures.wrote)
-          (omega (arith, c.loop-i.invariant.0, c.if-i-end.true)) c.put_escaped.result (c.put_escaped.new.out) c.put_escaped.ensures c.in-To.next c.in-To.is,
-    )
+  c.loop-i.invariant.0,
+  part-turn c.args.text.now (c.loop-i.i + c.put_plain-k.result) c.args.to (part-plain c.args.text.now c.loop-i.i c.args.to c.loop-i.invariant.1 c.put_plain-k.result (omega (arith, c.loop-i.invariant.0, c.put_plain-k.ensures.result_bound)) (c.put_plain-k.new.out) c.put_plain-k.ensures.wrote)
+      (omega (arith, c.loop-i.invariant.0, c.if-i-end.true)) c.put_escaped.result (c.put_escaped.new.out) c.put_escaped.ensures c.in-To.next c.in-To.is,
+)
 
 pub loop-i-smaller : goal.loop-i-smaller
 loop-i-smaller c = omega (arith, c.if-i-end.false, c.loop-i-test.true)

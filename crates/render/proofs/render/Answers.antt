@@ -24,10 +24,10 @@ returns-in_default c = events-full c.args.text.now c.args.events.now c.args.n c.
 
 pub loop-i-preserved : goal.loop-i-preserved
 loop-i-preserved c = (
-      subst (λ (r : ℕ). r ≤ c.loop-i.i + 1) (sym c.raw_behind-raw.ensures) (raw-few c.loop-i.raw c.event_at-e.result.kind c.loop-i.i c.loop-i.invariant.0),
-      subst (λ (r : ℕ). Left c.args.out.now 0 (fragment c.args.text.now (listed c.args.n c.args.events.now)) c.put_outside.new.out c.in-To.next (outside_raw (written c.args.text.now) r (drop (c.loop-i.i + 1) (listed c.args.n c.args.events.now)))) (sym c.raw_behind-raw.ensures)
-          (events-turn c.args.text.now c.args.events.now c.args.n c.loop-i.raw c.loop-i.i c.loop-i.invariant.1 c.loop-i-test.true c.event_at-e.result c.event_at-e.ensures c.put_outside.result c.put_outside.new.out c.put_outside.ensures c.in-To.next c.in-To.is),
-    )
+  subst (λ (r : ℕ). r ≤ c.loop-i.i + 1) (sym c.raw_behind-raw.ensures) (raw-few c.loop-i.raw c.event_at-e.result.kind c.loop-i.i c.loop-i.invariant.0),
+  subst (λ (r : ℕ). Left c.args.out.now 0 (fragment c.args.text.now (listed c.args.n c.args.events.now)) c.put_outside.new.out c.in-To.next (outside_raw (written c.args.text.now) r (drop (c.loop-i.i + 1) (listed c.args.n c.args.events.now)))) (sym c.raw_behind-raw.ensures)
+      (events-turn c.args.text.now c.args.events.now c.args.n c.loop-i.raw c.loop-i.i c.loop-i.invariant.1 c.loop-i-test.true c.event_at-e.result c.event_at-e.ensures c.put_outside.result c.put_outside.new.out c.put_outside.ensures c.in-To.next c.in-To.is),
+)
 
 pub shape_of-out : goal.shape_of-out
 shape_of-out c = c.loop-i.invariant.1.size
