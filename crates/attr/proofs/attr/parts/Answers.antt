@@ -14,7 +14,13 @@ returns-then-c-eq46 c = rw (ne_eqb _ 125 c.if-c-eq125.false, eq-eqb _ 46 c.if-c-
 
 pub returns-then-c-eq35 : goal.returns-then-c-eq35
 unfolding by
-returns-then-c-eq35 c = rw (ne_eqb _ 125 c.if-c-eq125.false, ne_eqb _ 46 c.if-c-eq46.false, eq-eqb _ 35 c.if-c-eq35.true, by)
+returns-then-c-eq35 c = rw (
+  ne_eqb _ 125 c.if-c-eq125.false,
+  ne_eqb _ 46 c.if-c-eq46.false,
+  eq-eqb _ 35
+      c.if-c-eq35.true,
+  by,
+)
 
 pub returns-then-c-eq37 : goal.returns-then-c-eq37
 unfolding by
