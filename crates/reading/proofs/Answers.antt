@@ -30,12 +30,9 @@ module _ (text : List ℕ) where
   total-within a (l ∷ ls) h r = omega (arith, r.0, r.1, total-within l.end ls r.2 r.3)
 
 module _ (text : List ℕ) (ls : List Line) (reading : ℕ) (rooms : Rooms) where
-  -- the questions: what holds of a refusal under 1 to 6, and of what comes of lines that pass 3 and 4, holds of the
-      outcome
-  pub asks-with : (block : ℕ → Bool) (P : Outcome → Type 0) → ((code at : ℕ) → 1 ≤ code → code ≤ 6 → P
-      (refuses code at rooms))
-      → (Fed text ls → let s = read (sheet_with block text reading (label_room rooms.labels)) ls in P
-          (judged s.refused s.fits s rooms))
+  -- the questions: what holds of a refusal under 1 to 6, and of what comes of lines that pass 3 and 4, holds of the outcome
+  pub asks-with : (block : ℕ → Bool) (P : Outcome → Type 0) → ((code at : ℕ) → 1 ≤ code → code ≤ 6 → P (refuses code at rooms))
+      → (Fed text ls → let s = read (sheet_with block text reading (label_room rooms.labels)) ls in P (judged s.refused s.fits s rooms))
       → P (outcome_with block text ls reading rooms)
   unfolding outcome_with
   asks-with block P early late =
@@ -57,69 +54,59 @@ module _ (text : List ℕ) (ls : List Line) (reading : ℕ) (rooms : Rooms) wher
   x = sheet text ls reading (label_room rooms.labels)
 
   pub asks : (P : Outcome → Type 0) → ((code at : ℕ) → 1 ≤ code → code ≤ 6 → P (refuses code at rooms))
-      → (Fed text ls → P (judged (read x ls).refused (read x ls).fits (read x ls) rooms)) → P
-          (outcome text ls reading rooms)
+      → (Fed text ls → P (judged (read x ls).refused (read x ls).fits (read x ls) rooms)) → P (outcome text ls reading rooms)
   asks = asks-with (block_at (views text ls))
 
   -- 7 and 8 are refusals too; behind them the list is handed out
   judges : (P : Outcome → Type 0) → ((code at : ℕ) → 1 ≤ code → code ≤ 8 → P (refuses code at (cleared rooms)))
-      → (r : Refused) (f : Bool) (s : State) → (r ≡ refused.No → f ≡ true → P
-          (handed_out (drain s.queue) s.labels rooms)) → P (judged r f s rooms)
+      → (r : Refused) (f : Bool) (s : State) → (r ≡ refused.No → f ≡ true → P (handed_out (drain s.queue) s.labels rooms)) → P (judged r f s rooms)
   unfolding judged
   judges P early (refused.At p) f s late = early 7 p.0 (omega arith) (omega arith)
   judges P early refused.No false s late = early 8 0 (omega arith) (omega arith)
   judges P early refused.No true s late = late refl refl
 
   -- whoever lends N + 1 event records is never refused for event room
-  pub never-nine : total ls + 1 ≤ length rooms.events / event_numbers
-      → (outcome text ls reading rooms).answer.code ≡ 9 → ⊥
+  pub never-nine : total ls + 1 ≤ length rooms.events / event_numbers → (outcome text ls reading rooms).answer.code ≡ 9 → ⊥
   unfolding handed_out
   never-nine lends =
       asks Other (λ code at l u e. omega (arith, e, u))
       (λ fed. judges Other (λ code at l u e. omega (arith, e, u)) (read x ls).refused (read x ls).fits (read x ls)
       (λ r f e.
-      let z = rw (le-leb (length (drain (read x ls).queue)) (length rooms.events / event_numbers)
-          (omega (arith, lends, room x ls fed r)), handed_out) at e in
+      let z = rw (le-leb (length (drain (read x ls).queue)) (length rooms.events / event_numbers) (omega (arith, lends, room x ls fed r)), handed_out) at e in
       omega (arith, z)))
     where
       Other : Outcome → Type 0
       Other o = o.answer.code ≡ 9 → ⊥
 
   -- demand 3 of every accepted sheet
-  pub accepted : (outcome text ls reading rooms).answer.code ≡ 0 → Accepted text ls reading rooms
-      (outcome text ls reading rooms)
+  pub accepted : (outcome text ls reading rooms).answer.code ≡ 0 → Accepted text ls reading rooms (outcome text ls reading rooms)
   unfolding handed_out
   accepted =
       asks Claim (λ code at l u e. absurd (omega (arith, e, l)))
-      (λ fed. judges Claim (λ code at l u e. absurd (omega (arith, e, l))) (read x ls).refused (read x ls).fits
-          (read x ls)
+      (λ fed. judges Claim (λ code at l u e. absurd (omega (arith, e, l))) (read x ls).refused (read x ls).fits (read x ls)
       (λ r f. go r f fed (leb (length (drain (read x ls).queue)) (length rooms.events / event_numbers)) refl))
     where
       Claim : Outcome → Type 0
       Claim o = o.answer.code ≡ 0 → Accepted text ls reading rooms o
 
-      go : (read x ls).refused ≡ refused.No → (read x ls).fits ≡ true → Fed text ls → (b : Bool) → leb
-          (length (drain (read x ls).queue)) (length rooms.events / event_numbers) ≡ b
+      go : (read x ls).refused ≡ refused.No → (read x ls).fits ≡ true → Fed text ls → (b : Bool) → leb (length (drain (read x ls).queue)) (length rooms.events / event_numbers) ≡ b
           → Claim (handed_out (drain (read x ls).queue) (read x ls).labels rooms)
       go r f fed true b e =
           record { whole = whole x ls fed r; count = rw (b, handed_out); handed = rw (b, handed_out) }
       go r f fed false b e = absurd (omega (arith, rw (b, handed_out) at e))
 
   -- the homes of the events of every accepted sheet
-  pub homed : (outcome text ls reading rooms).answer.code ≡ 0 → Homed text ls reading rooms
-      (outcome text ls reading rooms)
+  pub homed : (outcome text ls reading rooms).answer.code ≡ 0 → Homed text ls reading rooms (outcome text ls reading rooms)
   unfolding handed_out
   homed =
       asks Claim (λ code at l u e. absurd (omega (arith, e, l)))
-      (λ fed. judges Claim (λ code at l u e. absurd (omega (arith, e, l))) (read x ls).refused (read x ls).fits
-          (read x ls)
+      (λ fed. judges Claim (λ code at l u e. absurd (omega (arith, e, l))) (read x ls).refused (read x ls).fits (read x ls)
       (λ r f. go r f fed (leb (length (drain (read x ls).queue)) (length rooms.events / event_numbers)) refl))
     where
       Claim : Outcome → Type 0
       Claim o = o.answer.code ≡ 0 → Homed text ls reading rooms o
 
-      go : (read x ls).refused ≡ refused.No → (read x ls).fits ≡ true → Fed text ls → (b : Bool) → leb
-          (length (drain (read x ls).queue)) (length rooms.events / event_numbers) ≡ b
+      go : (read x ls).refused ≡ refused.No → (read x ls).fits ≡ true → Fed text ls → (b : Bool) → leb (length (drain (read x ls).queue)) (length rooms.events / event_numbers) ≡ b
           → Claim (handed_out (drain (read x ls).queue) (read x ls).labels rooms)
       go r f fed true b e = record { homes = rw (b, handed_out) (homes x ls fed r f) }
       go r f fed false b e = absurd (omega (arith, rw (b, handed_out) at e))
@@ -130,8 +117,7 @@ module _ (text : List ℕ) (ls : List Line) (reading : ℕ) (rooms : Rooms) wher
   small =
       choose Claim (leb reading 1) _ _
       (λ a. choose Claim (leb (length text) largest && leb (length ls) largest) _ _
-      (λ b e. leb-true (length text) largest ((and-eq-true_iff (leb (length text) largest)
-          (leb (length ls) largest)).0 b).0)
+      (λ b e. leb-true (length text) largest ((and-eq-true_iff (leb (length text) largest) (leb (length ls) largest)).0 b).0)
       (λ b e. absurd (omega (arith, e))))
       (λ a e. absurd (omega (arith, e)))
     where
@@ -142,5 +128,4 @@ module _ (text : List ℕ) (ls : List Line) (reading : ℕ) (rooms : Rooms) wher
   short e = omega (arith, small e, total-within text 0 ls (omega arith) (up x ls (fed e)))
     where
       fed : (outcome text ls reading rooms).answer.code ≡ 0 → Fed text ls
-      fed = asks (λ (o : Outcome). o.answer.code ≡ 0 → Fed text ls) (λ code at l u e. absurd (omega (arith, e, l)))
-          (λ f e. f)
+      fed = asks (λ (o : Outcome). o.answer.code ≡ 0 → Fed text ls) (λ code at l u e. absurd (omega (arith, e, l))) (λ f e. f)

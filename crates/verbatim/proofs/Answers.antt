@@ -80,15 +80,13 @@ module _ (k : ℕ) where
 
   -- the kind of an enter is no other
   kind-else : 32 ≤ k → k < 64 → (x : EventKind) → x ≡ kind_of k → OneOf (0 ∷ 2 ∷ []) (tag_of the_type x) → ⊥
-  kind-else a b x e h = miss (0 ∷ 2 ∷ []) 1 tt (subst (λ (y : EventKind). OneOf (0 ∷ 2 ∷ []) (tag_of the_type y))
-      (e ∙ sym (kind-enter a b)) h)
+  kind-else a b x e h = miss (0 ∷ 2 ∷ []) 1 tt (subst (λ (y : EventKind). OneOf (0 ∷ 2 ∷ []) (tag_of the_type y)) (e ∙ sym (kind-enter a b)) h)
 
   kind-of-enter : 32 ≤ k → k < 64 → (x : EventKind) → x ≡ kind_of k → (j : ℕ) → x ≡ Enter j → j + 32 ≡ k
   kind-of-enter a b x e j i = let z = kind-enter a b in let y : j ≡ k - 32 = cc in omega (arith, y)
 
 -- the exit for the enter d
-module _ (d e : Event) (is : e ≡ d) (low : 32 ≤ d.kind) (high : d.kind < 64) (x : EventKind)
-    (isx : x ≡ kind_of e.kind) where
+module _ (d e : Event) (is : e ≡ d) (low : 32 ≤ d.kind) (high : d.kind < 64) (x : EventKind) (isx : x ≡ kind_of e.kind) where
   pub exit-else : OneOf (0 ∷ 2 ∷ []) (tag_of the_type x) → ⊥
   exit-else h = kind-else d.kind low high x (isx ∙ ap (λ (y : Event). kind_of y.kind) is) h
 
@@ -100,15 +98,7 @@ module _ (d e : Event) (is : e ≡ d) (low : 32 ≤ d.kind) (high : d.kind < 64)
 
   pub exit-is : (k : ℕ) → x ≡ Enter k → (a b : Place)
       → ◌≡◌ {A = Event}
-      record {
-        kind = 64 + k;
-        start = a;
-        end = b;
-        home = e.home;
-        home_start = e.home_start;
-        home_end = e.home_end;
-        link = e.link;
-      }
+      record { kind = 64 + k; start = a; end = b; home = e.home; home_start = e.home_start; home_end = e.home_end; link = e.link }
       (exit_of d a.0 b.0)
   exit-is k isk a b = let z : 64 + k ≡ d.kind + 32 = omega (arith, exit-kind k isk) in rw (is, z)
 
@@ -117,8 +107,7 @@ pub another-none : (w : Verbatim) (x : Next) → x ≡ next.None → false ≡ a
 unfolding another_run
 another-none w x e = rw e
 
-pub another-some : (w : Verbatim) (x : Next) (t : Token) → x ≡ next.Some t → (r : Role) → r ≡ role_of t.kind
-    → (b : Bool) → b ≡ is_run r
+pub another-some : (w : Verbatim) (x : Next) (t : Token) → x ≡ next.Some t → (r : Role) → r ≡ role_of t.kind → (b : Bool) → b ≡ is_run r
     → (b && not (eqb t.len w.len)) ≡ another_run w x
 unfolding another_run
 another-some w x t e r isr b isb = rw (e, isb, isr)
@@ -128,17 +117,14 @@ module _ (v : View) (j : ℕ) (x : Next) where
   unfolding format_ahead
   format-none e = rw e
 
-  module _ (t : Token) (e : x ≡ next.Some t) (r : Role) (isr : r ≡ role_of t.kind) (b : Bool)
-      (isb : b ≡ is_format r) where
+  module _ (t : Token) (e : x ≡ next.Some t) (r : Role) (isr : r ≡ role_of t.kind) (b : Bool) (isb : b ≡ is_format r) where
     pub format-some : b ≡ true → (a : Ahead) → a ≡ raw_format_of (drop (j + 2) v.bytes) → a ≡ format_ahead v j x
     unfolding format_ahead
-    format-some y a isa = let z : is_format (role_of t.kind) ≡ true = sym (isb ∙ ap (λ (r : Role). is_format r) isr)
-        ∙ y in rw (e, format_ahead, z) isa
+    format-some y a isa = let z : is_format (role_of t.kind) ≡ true = sym (isb ∙ ap (λ (r : Role). is_format r) isr) ∙ y in rw (e, format_ahead, z) isa
 
     pub format-other : b ≡ false → ahead.None ≡ format_ahead v j x
     unfolding format_ahead
-    format-other y = let z : is_format (role_of t.kind) ≡ false = sym (isb ∙ ap (λ (r : Role). is_format r) isr)
-        ∙ y in rw (e, format_ahead, z)
+    format-other y = let z : is_format (role_of t.kind) ≡ false = sym (isb ∙ ap (λ (r : Role). is_format r) isr) ∙ y in rw (e, format_ahead, z)
 
 -- how many events are kept
 pub kept-cut : (w : Verbatim) (q : List Event) → w.run ≡ true → take w.keep q ≡ kept w q
