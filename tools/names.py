@@ -20,10 +20,10 @@ FOLDERS = ["", "crates/", "crates/*/", "crates/*/*/", "crates/*/*/*/", "tools/"]
 PLACES = ["crates", "tools", "compare", "bench", "interface", "sheet", "tokens", "crates.txt", ".ci"]
 
 files = subprocess.run(["git", "ls-files", "-co", "--exclude-standard"], capture_output=True, text=True, check=True).stdout.split()
-crates = [line.split(":")[0] for line in open("crates.txt") if re.match(r"\w+:", line)]
+crates = [line.split(":")[0].split()[0] for line in open("crates.txt") if re.match(r"\w+[\w ]*:", line)]
 text = {}
 for f in files:
-    if f != "tools/names.py" and any(f == p or f.startswith(p + "/") for p in PLACES):
+    if f not in ("tools/names.py", "tools/respell.py") and any(f == p or f.startswith(p + "/") for p in PLACES):
         text[f] = open(f, encoding="utf-8", errors="replace").read()
 words = set(re.findall(r"[\w-]+", "\n".join(text.values()))) | {part for f in files for part in re.findall(r"[\w-]+", f)}
 edits = {f.split("/")[1] + "/" + os.path.basename(f)[: -len(".edit")] for f in files if f.endswith(".edit")}
