@@ -1,4 +1,4 @@
-//! Our leaves, and the reader on starts and ends, from the static library of `crates/exports`, behind safe functions.
+//! Our leaves, and the reader on starts and ends, from the static library of `crates/exports_c`, behind safe functions.
 
 use crate::mivurakol::{Answer, Rooms};
 

@@ -3,7 +3,8 @@
 tools, the comparison, the benchmark or the interface. Every crate stands in README.md, and every must-fail edit in docs/THEOREMS.md. Status 1 if not.
 
 What is no single word (a sheet, a command, a piece of code) is passed over, and so is docs/DIFFERENCES.md, where nearly all that stands in backticks
-is a sheet. Names of the source and names that are gone, and are said to be, stand below."""
+is a sheet. In docs/CHANGES.md and docs/REVIEW.md, which tell what was, a name may stand in its older spelling (`event-numbers`, `standsIn`). Names of
+the source and names that are gone, and are said to be, stand below."""
 import glob
 import os
 import re
@@ -11,19 +12,20 @@ import subprocess
 import sys
 
 # of the Rust, of the toolchain, of what is built, of the README's snippets and the example in docs/PROVING.md
-OUTSIDE = set("""someOf upto_some crates/scan/proofs/upto_some/Proof.antt lex.rs inline.rs attr.rs is_ascii_whitespace set_current_line VecDeque memset perf
-    ../shared/docs crates/door/src/main.rt target/staticlib/libmivurakol.a target/must-fail/NAME/EDIT/.log""".split())
+OUTSIDE = set("""some_of upto_some crates/scan/proofs/upto_some/Answers.antt rattle-kit-13f grind libexports.a cmp lex.rs inline.rs attr.rs
+    is_ascii_whitespace set_current_line VecDeque memset perf ../shared/docs crates/door/src/main.rt target/staticlib/libmivurakol.a""".split())
 # gone, or under another name now, and said to be: in docs/CHANGES.md and docs/REVIEW.md
 GONE = set("""Shelved shelved Shelf Shelves Shelving shelve roomy pour pile Bits Telling reader/specs/Asking classes/special_bit_lost
-    lexer/line_in_verbatim later_as_str reading/event_too_many""".split())
+    lexer/line_in_verbatim later_as_str reading/event_too_many Hidden""".split())
+HISTORY = ["docs/CHANGES.md", "docs/REVIEW.md"]
 FOLDERS = ["", "crates/", "crates/*/", "crates/*/*/", "crates/*/*/*/", "tools/"]
 PLACES = ["crates", "tools", "compare", "bench", "interface", "sheet", "tokens", "crates.txt", ".ci"]
 
 files = subprocess.run(["git", "ls-files", "-co", "--exclude-standard"], capture_output=True, text=True, check=True).stdout.split()
-crates = [line.split(":")[0] for line in open("crates.txt") if re.match(r"\w+:", line)]
+crates = [line.split(":")[0].split()[0] for line in open("crates.txt") if re.match(r"\w+[\w ]*:", line)]
 text = {}
 for f in files:
-    if f != "tools/names.py" and any(f == p or f.startswith(p + "/") for p in PLACES):
+    if f not in ("tools/names.py", "tools/respell.py") and any(f == p or f.startswith(p + "/") for p in PLACES):
         text[f] = open(f, encoding="utf-8", errors="replace").read()
 words = set(re.findall(r"[\w-]+", "\n".join(text.values()))) | {part for f in files for part in re.findall(r"[\w-]+", f)}
 edits = {f.split("/")[1] + "/" + os.path.basename(f)[: -len(".edit")] for f in files if f.endswith(".edit")}
@@ -43,6 +45,10 @@ def found(name):
     return all(part in words for part in re.split(r"::|[.:]", name) if part)
 
 
+def respelled(name):
+    return re.sub(r"(?<=[a-z0-9])[A-Z]", lambda m: "_" + m[0].lower(), name.replace("-", "_"))
+
+
 names, lost = 0, []
 for doc in ["README.md"] + sorted(glob.glob("docs/*.md")):
     prose = re.sub(r"^```.*?^```$", "", open(doc).read(), flags=re.S | re.M)
@@ -55,7 +61,7 @@ for doc in ["README.md"] + sorted(glob.glob("docs/*.md")):
         continue
     for name in re.findall(r"(?<!`)`([A-Za-z_.][\w./:·-]+)`(?!`)", prose):
         names += 1
-        if not found(name):
+        if not found(name) and not (doc in HISTORY and found(respelled(name))):
             lost.append(f"{doc}: {name}")
 
 readme, theorems = open("README.md").read(), open("docs/THEOREMS.md").read()

@@ -5,7 +5,7 @@ cd "$(dirname "$0")/.."
 events=4
 here=$PWD out=$PWD/target/snippets
 rm -rf "$out"
-mkdir -p "$out/copy/target"
+mkdir -p "$out/copy"
 
 snippet() { # LANGUAGE
     awk -v first="\`\`\`$1" '$0 == first { on = 1; next } $0 == "```" { on = 0 } on' README.md
@@ -28,12 +28,11 @@ ln -s "$here/interface" "$out/interface"
 rustc --edition 2021 -A dead_code -L target/staticlib -l static=mivurakol -o "$out/door_rust" "$out/door.rs"
 said Rust "$("$out/door_rust")"
 
-# a copy of the repository with one crate more, which takes over what is proved
-cp -r crates crates.txt tools "$out/copy"
-for part in rlib stamp log; do cp -al "target/$part" "$out/copy/target"; done
+# a copy of the repository with one crate more; `rt` takes over what is proved here
+trap 'rm -rf "$out/copy"' EXIT
+tar -cf - --exclude=out crates crates.txt tools | tar -xf - -C "$out/copy"
 mkdir -p "$out/copy/crates/door/src"
 snippet rattle >"$out/copy/crates/door/src/main.rt"
-printf '%s' "$events" >"$out/copy/crates/door/stdout"
 sed -n 's/.*`\(door: [a-z ]*\)`.*/\1/p' README.md >>"$out/copy/crates.txt"
 "$out/copy/tools/prove.sh" program door
 said Rattle "$("$out/copy/target/bin/door")"

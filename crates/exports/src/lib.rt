@@ -1,6 +1,6 @@
 #![tactic(auto)]
-// What the comparison with the Rust calls under C names, besides the C interface: the leaves, with tokens and cursors as numbers, and the reader on two
-// number slices.
+// What the comparison with the Rust calls, besides the C interface: the leaves, with tokens and cursors as numbers, and the reader on two number slices.
+// `exports_c` has them under their C names.
 ghost use Rattle.std.specs.Prelude.{◌≡◌, ◌+◌, ◌/◌, ◌≤◌, ◌<◌, length, drop};
 ghost use Rattle.attr.specs.Attributes.{fed};
 ghost use Rattle.lex.specs.Lexer.{fresh_of, peek_of, next_of};
@@ -294,23 +294,20 @@ fn step_of(l: Lexed) -> Step
     }
 }
 
-#[unsafe(no_mangle)]
-pub extern "C" fn mivurakol_cursor(pos: usize, verbatim: bool) -> CursorNumbers
+pub fn mivurakol_cursor(pos: usize, verbatim: bool) -> CursorNumbers
     ensures { result ≡ state_of (fresh_of pos verbatim) }
 {
     state_of(Cursor::new(pos, verbatim))
 }
 
-#[unsafe(no_mangle)]
-pub extern "C" fn mivurakol_peek(src: &[u8], s: CursorNumbers) -> Step
+pub fn mivurakol_peek(src: &[u8], s: CursorNumbers) -> Step
     ensures { result ≡ step_of (peek_of src.now (cursor_of s)) }
 {
     let flags = classes::classes();
     step_of(lexer::peek_token(src, cursor_of(s), &flags))
 }
 
-#[unsafe(no_mangle)]
-pub extern "C" fn mivurakol_next(src: &[u8], s: CursorNumbers) -> Step
+pub fn mivurakol_next(src: &[u8], s: CursorNumbers) -> Step
     ensures { result ≡ step_of (next_of src.now (cursor_of s)) }
 {
     let flags = classes::classes();
@@ -332,32 +329,28 @@ fn scanned_of(a: Ahead) -> Scanned
     }
 }
 
-#[unsafe(no_mangle)]
-pub extern "C" fn mivurakol_autolink(src: &[u8], from: usize) -> Scanned
+pub fn mivurakol_autolink(src: &[u8], from: usize) -> Scanned
     ensures { result ≡ scanned_of (autolink_of (drop from src.now)) }
 {
     let flags = classes::classes();
     scanned_of(scan::ahead_autolink(src, from, &flags))
 }
 
-#[unsafe(no_mangle)]
-pub extern "C" fn mivurakol_symbol(src: &[u8], from: usize) -> Scanned
+pub fn mivurakol_symbol(src: &[u8], from: usize) -> Scanned
     ensures { result ≡ scanned_of (symbol_of (drop from src.now)) }
 {
     let flags = classes::classes();
     scanned_of(scan::ahead_symbol(src, from, &flags))
 }
 
-#[unsafe(no_mangle)]
-pub extern "C" fn mivurakol_footnote(src: &[u8], from: usize) -> Scanned
+pub fn mivurakol_footnote(src: &[u8], from: usize) -> Scanned
     ensures { result ≡ scanned_of (footnote_of (drop from src.now)) }
 {
     let flags = classes::classes();
     scanned_of(scan::ahead_footnote(src, from, &flags))
 }
 
-#[unsafe(no_mangle)]
-pub extern "C" fn mivurakol_raw_format(src: &[u8], from: usize) -> Scanned
+pub fn mivurakol_raw_format(src: &[u8], from: usize) -> Scanned
     ensures { result ≡ scanned_of (raw_format_of (drop from src.now)) }
 {
     let flags = classes::classes();
@@ -365,8 +358,7 @@ pub extern "C" fn mivurakol_raw_format(src: &[u8], from: usize) -> Scanned
 }
 
 // The attribute validator, from a state on.
-#[unsafe(no_mangle)]
-pub extern "C" fn mivurakol_validate(bytes: &[u8], state: u32) -> u32
+pub fn mivurakol_validate(bytes: &[u8], state: u32) -> u32
     ensures { result ≡ validator_number (fed bytes.now (validator_state state)) }
 {
     let flags = classes::classes();
@@ -378,8 +370,7 @@ pub extern "C" fn mivurakol_validate(bytes: &[u8], state: u32) -> u32
     validator_number(behind)
 }
 
-#[unsafe(no_mangle)]
-pub extern "C" fn mivurakol_hyphens(len: usize) -> Counts
+pub fn mivurakol_hyphens(len: usize) -> Counts
     ensures { result ≡ dash_counts (dashes_of len) }
 {
     let d = dash::split_hyphens(len);
@@ -389,8 +380,7 @@ pub extern "C" fn mivurakol_hyphens(len: usize) -> Counts
     }
 }
 
-#[unsafe(no_mangle)]
-pub extern "C" fn mivurakol_periods(len: usize) -> Counts
+pub fn mivurakol_periods(len: usize) -> Counts
     ensures { result ≡ dot_counts (dots_of len) }
 {
     let d = dash::split_periods(len);
@@ -401,8 +391,7 @@ pub extern "C" fn mivurakol_periods(len: usize) -> Counts
 }
 
 // `reader::read`.
-#[unsafe(no_mangle)]
-pub extern "C" fn mivurakol_read_numbers(
+pub fn mivurakol_read_numbers(
     text: &[u8],
     starts: &[usize],
     ends: &[usize],
