@@ -15,7 +15,7 @@ use Rattle.classes.specs.declared.Set.TheVariants.{Plain}
 use Rattle.classes.specs.Sets.{in_set, run}
 use Rattle.classes.proofs.Runs.{run-stop, run_more}
 use Rattle.lex.specs.declared.lex.Token.{Token}
-use Rattle.lex.specs.declared.lex.Kind.TheVariants.{Text, Open}
+use Rattle.lex.specs.declared.lex.Kind.TheVariants.{Open}
 use Rattle.lex.specs.declared.lex.Delimiter.TheVariants.{Brace}
 use Rattle.lex.specs.declared.lex.Next.{Next}
 use Rattle.lex.specs.declared.lex.Next.TheVariants.{Some, None}

@@ -12,7 +12,6 @@ use Rattle.lex.specs.declared.lex.Cursor.{Cursor}
 use Rattle.lex.specs.Lexer.{peek_of}
 use Rattle.reading.specs.declared.Line.{Line}
 use Rattle.reading.specs.declared.Link.{Link}
-use Rattle.reading.specs.declared.Verbatim.{Verbatim}
 use Rattle.reading.specs.declared.Inside.{Inside}
 use Rattle.reading.specs.declared.Inside.TheVariants as inside
 use Rattle.reading.specs.declared.Refused.{Refused}
@@ -23,7 +22,7 @@ use Rattle.reading.specs.Machine.{rules_of, View, Rules, Sheet, State, Turn, Her
 use Rattle.reading.specs.Tokens.{role_of}
 use Rattle.reading.specs.Verbatim.{ended_at}
 use Rattle.reading.specs.Labels.{Label, here, built, Labelled, label_home}
-use Rattle.reading.specs.Containers.{closes_link, close_as, container}
+use Rattle.reading.specs.Containers.{closes_link, close_as}
 use Rattle.reading.specs.Blocks.{block_at}
 use Rattle.reading.specs.Reading.{by_place, here_at, on_token, unless, steps, begun, lines, start, end_of, views, read, sheet}
 use Rattle.reading.specs.Dropped.{Content, no_content, step_drops, step_content, steps_drop, steps_content, lines_drop, dropped}

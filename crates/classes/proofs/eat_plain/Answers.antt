@@ -1,7 +1,6 @@
 -- `classes::eat_plain` meets its contract: `Passed` holds at the loop's head. The measure is what is left of the bytes.
 use mathlib.Core.Path.{sym, ap, ◌∙◌}
 use mathlib.Core.Bool.{not}
-use Prim.Native.Nat.{◌-◌}
 use Rattle.classes.specs.declared.Set.TheVariants.{Plain}
 use Rattle.classes.specs.Sets.{in_set}
 use Rattle.classes.proofs.Rule.{class-flags}

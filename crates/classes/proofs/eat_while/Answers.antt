@@ -1,6 +1,5 @@
 -- `classes::eat_while` meets its contract: `Passed` holds at the loop's head. The measure is what is left of the bytes.
 use mathlib.Core.Path.{sym, ◌∙◌}
-use Prim.Native.Nat.{◌-◌}
 use borrow.Author.Tests.{not-true, not-false}
 use Rattle.classes.specs.Sets.{in_set}
 use Rattle.classes.proofs.Runs.{passed_none, passed-all, passed_here, passed-more}

@@ -1,8 +1,6 @@
 -- `labels::bytes` meets its contract. At the loop's head the bytes from i on are left to write; the measure is how many these are.
-use Prim.Native.Nat.{◌-◌}
 use mathlib.Core.Path.{◌∙◌}
 use mathlib.Core.List.{◌++◌}
-use mathlib.Core.Bool.{true}
 use native.Mathlib.Omega.{arith}
 use borrow.Author.Tests.{not-true, not-false}
 use Rattle.reading.specs.Labels.{pieces, separator}

@@ -1,5 +1,4 @@
 -- `labels::copy` meets its contract. At the loop's head the bytes from i on are left to write; the measure is how many these are.
-use Prim.Native.Nat.{◌-◌}
 use mathlib.Core.Path.{refl, ◌∙◌}
 use mathlib.Core.List.{◌++◌}
 use mathlib.Core.Bool.{true}

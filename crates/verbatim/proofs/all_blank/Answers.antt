@@ -1,5 +1,4 @@
 -- `verbatim::all_blank` meets its contract, by the laws of `Answers`.
-use Prim.Native.Nat.{◌-◌}
 use mathlib.Core.Path.{refl, sym, ◌∙◌}
 use borrow.Author.Tests.{not-true, not-false}
 use Rattle.verbatim.proofs.Answers.{blank-end, blank-stop, blank-more}

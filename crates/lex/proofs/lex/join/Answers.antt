@@ -1,5 +1,4 @@
 -- `lex::lex::join` meets its contract: `Joining` holds at the loop's head. The measure is what is left of the line: a token is at least one byte.
-use Prim.Native.Nat.{◌-◌}
 use mathlib.Core.Path.{refl, sym, ◌∙◌}
 use mathlib.Core.Bool.{false}
 use native.Mathlib.Omega.{arith}

@@ -1,6 +1,5 @@
 -- `attr::attr::Validator::parse` meets its contract: `Going` holds at the loop's head. The measure is what is left of the bytes.
 use mathlib.Core.Path.{refl, sym, ap, ◌∙◌}
-use Prim.Native.Nat.{◌-◌}
 use Rattle.attr.specs.declared.attr.State.{State}
 use Rattle.attr.proofs.Feeding.{going-all, going-decided, going_on}
 use Rattle.attr.proofs.attr.Validator.parse.Goals as goal
