@@ -2,6 +2,7 @@
 // Replays the stored answers of the Rust, case by case, and prints how many cases there were and how many differ.
 // A case begins with its sort: 0 the tokens of a line, 1 to 4 a scan ahead, 5 a run of hyphens, 6 a run of periods.
 use exports::{Counts, CursorNumbers, Scanned};
+use std::io;
 use stored::{Case, Report, fill, number_at};
 
 // Bit i of a pattern, which repeats.
@@ -162,8 +163,8 @@ fn replay(sample: &[u8]) -> Report {
     }
 }
 
-fn main() {
+fn main(rt: HostRuntime) -> io::Result<()> {
     let mut sample = [0u8; 524288];
-    let n = io::read_full(0, &mut sample);
-    stored::write_report(replay(&sample[..n]));
+    let n = input::read_full(&mut rt.reader(), &mut sample)?;
+    stored::write_report(&mut io::writer(&rt), replay(&sample[..n]))
 }

@@ -7,6 +7,7 @@ ghost use Rattle.std.specs.Prelude.{◌≤◌, ◌<◌, min, length, ◌≡◌};
 ghost use Rattle.replay_sheets.specs.Rooms.{all_are, same_as, holds};
 
 use reading::{Answer, EVENT_NUMBERS, code};
+use std::io;
 use stored::{Case, Report, fill, fill_places, number_at};
 
 // What stands in the rooms before the call.
@@ -374,8 +375,8 @@ fn replay(sample: &[u8]) -> Report {
     }
 }
 
-fn main() {
+fn main(rt: HostRuntime) -> io::Result<()> {
     let mut sample = [0u8; 524288];
-    let n = io::read_full(0, &mut sample);
-    stored::write_report(replay(&sample[..n]));
+    let n = input::read_full(&mut rt.reader(), &mut sample)?;
+    stored::write_report(&mut io::writer(&rt), replay(&sample[..n]))
 }

@@ -15,8 +15,10 @@ loop-i-preserved c = goes_on c.loop-i.invariant c.loop-i-test.true c.if-b-eq10.f
 
 pub returns-then-from-i : goal.returns-then-from-i
 returns-then-from-i c = last_line c.loop-i.invariant (search rules) c.loop-i-test.false c.if-from-i.true
+
 -- asked: ['count_value', 'lines_value', 'count_bound']
 
 pub returns-else-from-i : goal.returns-else-from-i
 returns-else-from-i c = no_line c.loop-i.invariant (search rules) c.loop-i-test.false c.if-from-i.false
+
 -- asked: ['count_value', 'lines_value', 'count_bound']
