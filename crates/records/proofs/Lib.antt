@@ -1,2 +1,1 @@
 pub mod Kept
-pub mod Twin

@@ -7,31 +7,17 @@ use Rattle.drain.proofs.Steps.{head_first, head-next, head-full, head-last, drai
 use Rattle.drain.proofs.drain.Goals as goal
 
 pub loop-i-init : goal.loop-i-init
-loop-i-init c = let a = c.args in head_first a.queue.now a.n a.room.now
+loop-i-init c = head_first c.args.queue.now c.args.n c.args.room.now
 
 pub returns-in_default : goal.returns-in_default
-returns-in_default c = let a = c.args in
-    let l = c.loop-i in
-    let t = c.drain_event in
-    let e = c.event_at in
-    drained-answer (draining.drain (events a.n a.queue.now)) a.room.now t.new.0 _
-    (head-full a.queue.now a.n a.room.now l.room l.h l.i l.invariant c.loop-i-test.true e.result e.ensures t.result t.new.0 t.ensures
-    c.in_default.is)
--- asked: ['value', 'room_after']
+returns-in_default c = let both = drained-answer (draining.drain (events c.args.n c.args.queue.now)) c.args.room.now c.drain_event.new.room _
+    (head-full c.args.queue.now c.args.n c.args.room.now c.loop-i.room c.loop-i.h c.loop-i.i c.loop-i.invariant c.loop-i-test.true c.event_at.result c.event_at.ensures c.drain_event.result c.drain_event.new.room c.drain_event.ensures
+    c.in_default.is) in record { value = both.0; room_after = both.1 }
 
 pub loop-i-preserved : goal.loop-i-preserved
-loop-i-preserved c = let a = c.args in
-    let l = c.loop-i in
-    let t = c.drain_event in
-    let e = c.event_at in
-    let k = c.next-1.given in
-    head-next a.queue.now a.n a.room.now l.room l.h l.i l.invariant c.loop-i-test.true e.result e.ensures t.result t.new.0 t.ensures
-    k.0.0 k.1 (search rules)
+loop-i-preserved c = head-next c.args.queue.now c.args.n c.args.room.now c.loop-i.room c.loop-i.h c.loop-i.i c.loop-i.invariant c.loop-i-test.true c.event_at.result c.event_at.ensures c.drain_event.result c.drain_event.new.room c.drain_event.ensures
+    c.in-On.next c.in-On.is (search rules)
 
 pub returns : goal.returns
-returns c = let a = c.args in
-    let l = c.loop-i in
-    let f = c.flush in
-    drained-answer (draining.drain (events a.n a.queue.now)) a.room.now f.new.0 f.result
-    (head-last a.queue.now a.n a.room.now l.room l.h l.i l.invariant c.loop-i-test.false f.result f.new.0 f.ensures)
--- asked: ['value', 'room_after']
+returns c = let both = drained-answer (draining.drain (events c.args.n c.args.queue.now)) c.args.room.now c.flush.new.room c.flush.result
+    (head-last c.args.queue.now c.args.n c.args.room.now c.loop-i.room c.loop-i.h c.loop-i.i c.loop-i.invariant c.loop-i-test.false c.flush.result c.flush.new.room c.flush.ensures) in record { value = both.0; room_after = both.1 }

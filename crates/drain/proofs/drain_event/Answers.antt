@@ -8,28 +8,21 @@ use Rattle.drain.proofs.drain_event.Goals as goal
 
 pub returns-then-e-ne-STR : goal.returns-then-e-ne-STR
 unfolding rest
-returns-then-e-ne-STR c es = let a = c.args in
-    c.drain_other.ensures es
-    ∙ turn-other a.h.start a.h.end a.e es (out (All a.h.count) a.room.now) c.if-e-ne-STR.true
+returns-then-e-ne-STR c es = c.drain_other.ensures es
+    ∙ turn-other c.args.h.start c.args.h.end c.args.e es (out (All c.args.h.count) c.args.room.now) c.if-e-ne-STR.true
 
 pub returns-then-h-start : goal.returns-then-h-start
 unfolding rest
-returns-then-h-start c es = let a = c.args in
-    turn-grows a.h.start a.h.end a.e es (out (All a.h.count) a.room.now) c.if-e-ne-STR.false c.if-h-start.true
+returns-then-h-start c es = turn-grows c.args.h.start c.args.h.end c.args.e es (out (All c.args.h.count) c.args.room.now) c.if-e-ne-STR.false c.if-h-start.true
 
 pub returns-in_default : goal.returns-in_default
 unfolding rest
-returns-in_default c es = let a = c.args in
-    let f = c.flush in
-    flush-full a.h.start a.h.end a.h.count a.room.now f.new.0 f.result f.ensures c.in_default.is
-    (drained a.e.start.0 a.e.end.0 es)
-    ∙ turn-apart a.h.start a.h.end a.e es (out (All a.h.count) a.room.now) c.if-e-ne-STR.false c.if-h-start.false
+returns-in_default c es = flush-full c.args.h.start c.args.h.end c.args.h.count c.args.room.now c.flush.new.room c.flush.result c.flush.ensures c.in_default.is
+    (drained c.args.e.start.0 c.args.e.end.0 es)
+    ∙ turn-apart c.args.h.start c.args.h.end c.args.e es (out (All c.args.h.count) c.args.room.now) c.if-e-ne-STR.false c.if-h-start.false
 
 pub returns : goal.returns
 unfolding rest
-returns c es = let a = c.args in
-    let f = c.flush in
-    let k = c.count-1.given in
-    flush-on a.h.start a.h.end a.h.count a.room.now f.new.0 f.result f.ensures k.0.0 k.1
-    (drained a.e.start.0 a.e.end.0 es)
-    ∙ turn-apart a.h.start a.h.end a.e es (out (All a.h.count) a.room.now) c.if-e-ne-STR.false c.if-h-start.false
+returns c es = flush-on c.args.h.start c.args.h.end c.args.h.count c.args.room.now c.flush.new.room c.flush.result c.flush.ensures c.in-All.count c.in-All.is
+    (drained c.args.e.start.0 c.args.e.end.0 es)
+    ∙ turn-apart c.args.h.start c.args.h.end c.args.e es (out (All c.args.h.count) c.args.room.now) c.if-e-ne-STR.false c.if-h-start.false

@@ -8,28 +8,17 @@ use Rattle.drain.proofs.drain_other.Goals as goal
 
 pub returns-in_default : goal.returns-in_default
 unfolding rest
-returns-in_default c es = let a = c.args in
-    let f = c.flush in
-    flush-full a.h.start a.h.end a.h.count a.room.now f.new.0 f.result f.ensures c.in_default.is
-    (a.e ∷ drained a.e.end.0 a.e.end.0 es)
+returns-in_default c es = flush-full c.args.h.start c.args.h.end c.args.h.count c.args.room.now c.flush.new.room c.flush.result c.flush.ensures c.in_default.is
+    (c.args.e ∷ drained c.args.e.end.0 c.args.e.end.0 es)
 
 pub returns-in_default-hand_out : goal.returns-in_default-hand_out
 unfolding rest
-returns-in_default-hand_out c es = let a = c.args in
-    let f = c.flush in
-    let o = c.hand_out in
-    let k = c.flushed-1.given in
-    put_full a.e k.0.0 f.new.0 o.new.0 o.result o.ensures c.in_default-hand_out.is (drained a.e.end.0 a.e.end.0 es)
-    ∙ flush-on a.h.start a.h.end a.h.count a.room.now f.new.0 f.result f.ensures k.0.0 k.1
-    (a.e ∷ drained a.e.end.0 a.e.end.0 es)
+returns-in_default-hand_out c es = put_full c.args.e c.in-All.flushed c.flush.new.room c.hand_out.new.room c.hand_out.result c.hand_out.ensures c.in_default-hand_out.is (drained c.args.e.end.0 c.args.e.end.0 es)
+    ∙ flush-on c.args.h.start c.args.h.end c.args.h.count c.args.room.now c.flush.new.room c.flush.result c.flush.ensures c.in-All.flushed c.in-All.is
+    (c.args.e ∷ drained c.args.e.end.0 c.args.e.end.0 es)
 
 pub returns : goal.returns
 unfolding rest
-returns c es = let a = c.args in
-    let f = c.flush in
-    let o = c.hand_out in
-    let k = c.flushed-1.given in
-    let m = c.count-1.given in
-    put_on a.e k.0.0 f.new.0 o.new.0 o.result o.ensures m.0.0 m.1 (drained a.e.end.0 a.e.end.0 es)
-    ∙ flush-on a.h.start a.h.end a.h.count a.room.now f.new.0 f.result f.ensures k.0.0 k.1
-    (a.e ∷ drained a.e.end.0 a.e.end.0 es)
+returns c es = put_on c.args.e c.in-All.flushed c.flush.new.room c.hand_out.new.room c.hand_out.result c.hand_out.ensures c.in-All-hand_out.count c.in-All-hand_out.is (drained c.args.e.end.0 c.args.e.end.0 es)
+    ∙ flush-on c.args.h.start c.args.h.end c.args.h.count c.args.room.now c.flush.new.room c.flush.result c.flush.ensures c.in-All.flushed c.in-All.is
+    (c.args.e ∷ drained c.args.e.end.0 c.args.e.end.0 es)

@@ -7,10 +7,9 @@ use Rattle.drain.proofs.Steps.{flush-none, flush-one}
 use Rattle.drain.proofs.flush.Goals as goal
 
 pub returns-then-h : goal.returns-then-h
-returns-then-h c = let a = c.args in flush-none a.h.start a.h.end (out (All a.h.count) a.room.now) c.if-h.true
+returns-then-h c = flush-none c.args.h.start c.args.h.end (out (All c.args.h.count) c.args.room.now) c.if-h.true
 
 pub returns : goal.returns
-returns c = let a = c.args in
-    c.hand_out.ensures
-    ∙ ap (λ (e : Event). put e (All a.h.count) a.room.now) c.str_of.ensures
-    ∙ flush-one a.h.start a.h.end (out (All a.h.count) a.room.now) c.if-h.false
+returns c = c.hand_out.ensures
+    ∙ ap (λ (e : Event). put e (All c.args.h.count) c.args.room.now) c.str_of.ensures
+    ∙ flush-one c.args.h.start c.args.h.end (out (All c.args.h.count) c.args.room.now) c.if-h.false

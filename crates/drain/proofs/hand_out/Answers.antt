@@ -7,9 +7,8 @@ use Rattle.drain.proofs.Storing.{put_in, put-out}
 use Rattle.drain.proofs.hand_out.Goals as goal
 
 pub returns-then-count-room : goal.returns-then-count-room
-returns-then-count-room c = let a = c.args in
-    (λ t. out (All (add-one a.count t)) (c.store.ensures t))
-    ∙ sym (put_in a.e a.count a.room.now c.if-count-room.true)
+returns-then-count-room c = (λ t. out (All (add-one c.args.count t)) (c.store.ensures t))
+    ∙ sym (put_in c.args.e c.args.count c.args.room.now c.if-count-room.true)
 
 pub returns : goal.returns
-returns c = let a = c.args in sym (put-out a.e a.count a.room.now c.if-count-room.false)
+returns c = sym (put-out c.args.e c.args.count c.args.room.now c.if-count-room.false)

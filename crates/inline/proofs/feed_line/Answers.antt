@@ -9,6 +9,12 @@ margin_of-m-requires c = omega (arith, fed-ordered c.args.text.now (record { sta
 pub slice_bounds-line-count : goal.slice_bounds-line-count
 slice_bounds-line-count c = fed-ordered c.args.text.now (record { start = c.args.start; end = c.args.end }) c.args.reading _ c.args.queue.now c.args.openers.now c.args.labels.now c.requires.amid
 
+pub slice_bounds-line-start : goal.slice_bounds-line-start
+slice_bounds-line-start c = fed-ordered c.args.text.now (record { start = c.args.start; end = c.args.end }) c.args.reading _ c.args.queue.now c.args.openers.now c.args.labels.now c.requires.amid
+
+pub slice_bounds-line-end : goal.slice_bounds-line-end
+slice_bounds-line-end c = fed-within c.args.text.now (record { start = c.args.start; end = c.args.end }) c.args.reading _ c.args.queue.now c.args.openers.now c.args.labels.now c.requires.amid
+
 pub read_line-requires : goal.read_line-requires
 read_line-requires c = record { lined = fed-lined c.args.text.now (record { start = c.args.start; end = c.args.end }) c.margin_of-m.result c.margin_of-m.ensures c.args.reading c.args.p c.args.queue.now c.args.openers.now c.args.labels.now c.requires.amid c.requires.labels_in_bounds; ruled = c.requires.ruled }
 

@@ -23,7 +23,7 @@ pub loop-i-smaller : goal.loop-i-smaller
 loop-i-smaller c = omega (arith, c.loop-i-test.true)
 
 pub loop-i-preserved : goal.loop-i-preserved
-loop-i-preserved c = head-next c.args.text.now (lines_of c.args.starts.now c.args.ends.now) c.args.reading c.args.queue.now c.args.openers.now c.args.labels.now c.requires.sheeted c.loop-i.queue c.loop-i.openers c.loop-i.labels c.loop-i.p c.loop-i.end c.loop-i.i c.loop-i.invariant (omega (arith, c.loop-i-test.true, lines-length c.args.starts.now c.args.ends.now c.requires.starts_len)) c.parse_line-p.result c.parse_line-p.new.1.1.1.1.1.1.0 c.parse_line-p.new.1.1.1.1.1.1.1.0 c.parse_line-p.new.1.1.1.1.1.1.1.1.0 c.parse_line-p.ensures c.parse_line-p.auto.1.1.1.1.1.1.0 c.parse_line-p.auto.1.1.1.1.1.1.1.0 c.parse_line-p.auto.1.1.1.1.1.1.1.1.0 _ (ap (λ z. z.end) (lines_at c.args.starts.now c.args.ends.now c.loop-i.i c.loop-i-test.true (omega (arith, c.loop-i-test.true, c.requires.starts_len))))
+loop-i-preserved c = head-next c.args.text.now (lines_of c.args.starts.now c.args.ends.now) c.args.reading c.args.queue.now c.args.openers.now c.args.labels.now c.requires.sheeted c.loop-i.queue c.loop-i.openers c.loop-i.labels c.loop-i.p c.loop-i.end c.loop-i.i c.loop-i.invariant (omega (arith, c.loop-i-test.true, lines-length c.args.starts.now c.args.ends.now c.requires.starts_len)) c.parse_line-p.result c.parse_line-p.new.queue c.parse_line-p.new.openers c.parse_line-p.new.labels c.parse_line-p.ensures c.parse_line-p.auto.queue c.parse_line-p.auto.openers c.parse_line-p.auto.labels _ (ap (λ z. z.end) (lines_at c.args.starts.now c.args.ends.now c.loop-i.i c.loop-i-test.true (omega (arith, c.loop-i-test.true, c.requires.starts_len))))
 
 pub finish-requires : goal.finish-requires
 finish-requires c = record { end_bound = end-small c.args.text.now (lines_of c.args.starts.now c.args.ends.now) c.args.reading c.args.queue.now c.args.openers.now c.args.labels.now c.requires.sheeted c.loop-i.queue c.loop-i.openers c.loop-i.labels c.loop-i.p c.loop-i.end c.loop-i.i c.loop-i.invariant (omega (arith, c.loop-i-test.false, lines-length c.args.starts.now c.args.ends.now c.requires.starts_len)); room = end-room c.args.text.now (lines_of c.args.starts.now c.args.ends.now) c.args.reading c.args.queue.now c.args.openers.now c.args.labels.now c.requires.sheeted c.loop-i.queue c.loop-i.openers c.loop-i.labels c.loop-i.p c.loop-i.end c.loop-i.i c.loop-i.invariant (omega (arith, c.loop-i-test.false, lines-length c.args.starts.now c.args.ends.now c.requires.starts_len)); closing = end-closing c.args.text.now (lines_of c.args.starts.now c.args.ends.now) c.args.reading c.args.queue.now c.args.openers.now c.args.labels.now c.requires.sheeted c.loop-i.queue c.loop-i.openers c.loop-i.labels c.loop-i.p c.loop-i.end c.loop-i.i c.loop-i.invariant (omega (arith, c.loop-i-test.false, lines-length c.args.starts.now c.args.ends.now c.requires.starts_len)) }

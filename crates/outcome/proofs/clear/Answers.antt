@@ -5,8 +5,7 @@ use Rattle.outcome.proofs.Clearing.{clearing-first, clearing-next, clearing-end}
 use Rattle.outcome.proofs.clear.Goals as goal
 
 pub loop-at-init : goal.loop-at-init
-loop-at-init c = let args = c.args in
-    clearing-first args.room.now
+loop-at-init c = clearing-first c.args.room.now
 
 pub loop-at-preserved : goal.loop-at-preserved
 loop-at-preserved c = search (rules, clearing-next)

@@ -5,8 +5,7 @@ use Rattle.outcome.proofs.Clearing.{clearing-first, clearing-next, clearing-end}
 use Rattle.outcome.proofs.clear_bytes.Goals as goal
 
 pub loop-i-init : goal.loop-i-init
-loop-i-init c = let args = c.args in
-    clearing-first args.room.now
+loop-i-init c = clearing-first c.args.room.now
 
 pub loop-i-preserved : goal.loop-i-preserved
 loop-i-preserved c = search (rules, clearing-next)

@@ -3,9 +3,4 @@ use Rattle.outcome.proofs.Clearing.{refused_all}
 use Rattle.outcome.proofs.refuse.Goals as goal
 
 pub returns : goal.returns
-returns c = let args = c.args in
-    let refusal = c.refusal in
-    let clear = c.clear in
-    let clear-work = c.clear_work in
-    let clear-bytes = c.clear_bytes in
-    refused_all args.events.now args.queue.now args.openers.now args.labels.now args.code args.place refusal.result (clear.new.room) (clear-work.new.room) (clear-work.new.openers) (clear-bytes.new.room) refusal.ensures clear.ensures clear-work.ensures.0 clear-work.ensures.1 clear-bytes.ensures
+returns c = refused_all c.args.events.now c.args.queue.now c.args.openers.now c.args.labels.now c.args.code c.args.place c.refusal.result (c.clear.new.room) (c.clear_work.new.queue) (c.clear_work.new.openers) (c.clear_bytes.new.room) c.refusal.ensures c.clear.ensures c.clear_work.ensures.queue_after c.clear_work.ensures.openers_after c.clear_bytes.ensures

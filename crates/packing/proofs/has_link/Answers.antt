@@ -5,13 +5,8 @@ use Rattle.packing.proofs.has_link.Goals as goal
 
 pub returns-then-k-lt-ENTER : goal.returns-then-k-lt-ENTER
 unfolding has_link
-returns-then-k-lt-ENTER c = let args = c.args in
-    let if1 = c.if-k-lt-ENTER in
-    rw (lt-ltb args.k 32 if1.true, has_link)
+returns-then-k-lt-ENTER c = rw (lt-ltb c.args.k 32 c.if-k-lt-ENTER.true, has_link)
 
 pub returns : goal.returns
 unfolding has_link
-returns c = let args = c.args in
-    let if1 = c.if-k-lt-ENTER in
-    let container = c.container-c in
-    rw (le-ltb args.k 32 if1.false, has_link, container.ensures)
+returns c = rw (le-ltb c.args.k 32 c.if-k-lt-ENTER.false, has_link, c.container-c.ensures)

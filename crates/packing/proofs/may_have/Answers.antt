@@ -7,6 +7,4 @@ use Rattle.packing.proofs.may_have.Goals as goal
 
 pub returns : goal.returns
 unfolding may_have
-returns c = let args = c.args in
-    let has_home = c.has_home in
-    ap (λ (t : Bool). eqb args.home 0 || (leb args.home 2 && t)) has_home.ensures
+returns c = ap (λ (t : Bool). eqb c.args.home 0 || (leb c.args.home 2 && t)) c.has_home.ensures

@@ -5,46 +5,22 @@ use Rattle.questions.proofs.Asking.{asked-outside, asked-early, asked-lack, aske
 use Rattle.questions.proofs.ask_rooms.Goals as goal
 
 pub overflow_cast-i : goal.overflow_cast-i
-overflow_cast-i c = let args = c.args in
-    let pre = c.requires in
-    let lines = c.lines-1 in
-    let small = small-outside args.lines pre lines.given.0.0 lines.given.1 in search rules
+overflow_cast-i c = let small = small-outside c.args.lines c.requires c.in-Outside.i c.in-Outside.is in search rules
 
 pub overflow_cast-i-in-Early : goal.overflow_cast-i-in-Early
-overflow_cast-i-in-Early c = let args = c.args in
-    let pre = c.requires in
-    let lines2 = c.lines-in-Early-1 in
-    let small = small-early args.lines pre lines2.given.0.0 lines2.given.1 in search rules
+overflow_cast-i-in-Early c = let small = small-early c.args.lines c.requires c.in-Early.i c.in-Early.is in search rules
 
 pub room_code-room-requires : goal.room_code-room-requires
-room_code-room-requires c = let args = c.args in
-    let pre = c.requires in
-    let lines3 = c.lines-in-Fed-1 in
-    small-fed args.lines pre lines3.given.0.0 lines3.given.1
+room_code-room-requires c = small-fed c.args.lines c.requires c.in-Fed.n c.in-Fed.is
 
 pub returns-then-room-ne0 : goal.returns-then-room-ne0
-returns-then-room-ne0 c = let args = c.args in
-    let lines3 = c.lines-in-Fed-1 in
-    let room_code = c.room_code-room in
-    let refusal3 = c.refusal-then-room-ne0 in
-    let if1 = c.if-room-ne0 in
-    asked-lack args.lines args.queue args.openers lines3.given.0.0 room_code.result refusal3.result lines3.given.1 room_code.ensures if1.true refusal3.ensures
+returns-then-room-ne0 c = asked-lack c.args.lines c.args.queue c.args.openers c.in-Fed.n c.room_code-room.result c.refusal-then-room-ne0.result c.in-Fed.is c.room_code-room.ensures c.if-room-ne0.true c.refusal-then-room-ne0.ensures
 
 pub returns-in-Outside : goal.returns-in-Outside
-returns-in-Outside c = let args = c.args in
-    let lines = c.lines-1 in
-    let refusal = c.refusal in
-    asked-outside args.lines args.queue args.openers lines.given.0.0 refusal.result lines.given.1 refusal.ensures
+returns-in-Outside c = asked-outside c.args.lines c.args.queue c.args.openers c.in-Outside.i c.refusal.result c.in-Outside.is c.refusal.ensures
 
 pub returns-in-Early : goal.returns-in-Early
-returns-in-Early c = let args = c.args in
-    let lines2 = c.lines-in-Early-1 in
-    let refusal2 = c.refusal-in-Early in
-    asked-early args.lines args.queue args.openers lines2.given.0.0 refusal2.result lines2.given.1 refusal2.ensures
+returns-in-Early c = asked-early c.args.lines c.args.queue c.args.openers c.in-Early.i c.refusal-in-Early.result c.in-Early.is c.refusal-in-Early.ensures
 
 pub returns-else-room-ne0 : goal.returns-else-room-ne0
-returns-else-room-ne0 c = let args = c.args in
-    let lines3 = c.lines-in-Fed-1 in
-    let room_code = c.room_code-room in
-    let if1 = c.if-room-ne0 in
-    asked-fed args.lines args.queue args.openers lines3.given.0.0 room_code.result lines3.given.1 room_code.ensures if1.false
+returns-else-room-ne0 c = asked-fed c.args.lines c.args.queue c.args.openers c.in-Fed.n c.room_code-room.result c.in-Fed.is c.room_code-room.ensures c.if-room-ne0.false

@@ -15,5 +15,4 @@ pub parse-requires : goal.parse-requires
 parse-requires c = sheeted c.args.text.now c.args.lines.now c.args.reading c.args.queue.now c.args.openers.now c.args.labels.now c.requires c.counted-room.result c.counted-room.ensures
 
 pub returns : goal.returns
-returns c = stood c.args.text.now c.args.lines.now c.args.reading c.args.queue.now c.args.openers.now c.args.labels.now c.requires c.counted-room.result c.counted-room.ensures c.parse.result c.parse.new.1.1.1.0 c.parse.new.1.1.1.1.0 c.parse.new.1.1.1.1.1.0 _ c.parse.ensures c.parse.auto.1.1.1.1.1.0 refl
--- asked: ['stands_for', 'labels_bound']
+returns c = let both = stood c.args.text.now c.args.lines.now c.args.reading c.args.queue.now c.args.openers.now c.args.labels.now c.requires c.counted-room.result c.counted-room.ensures c.parse.result c.parse.new.queue c.parse.new.openers c.parse.new.labels _ c.parse.ensures c.parse.auto.labels refl in record { stands_for = both.0; labels_bound = both.1 }

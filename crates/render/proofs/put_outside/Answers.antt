@@ -1,4 +1,5 @@
 -- `render::put_outside` meets its contract: nothing where a raw part is open.
+use mathlib.Core.List.{[]}
 use native.Mathlib.Omega.{arith}
 use Rattle.output.proofs.Appending.{wrote_none, wrote_as}
 use Rattle.markup.specs.Markup.{written}
@@ -6,9 +7,7 @@ use Rattle.render.proofs.Turns.{raw-nothing, raw-all}
 use Rattle.render.proofs.put_outside.Goals as goal
 
 pub returns-then-raw-gt0 : goal.returns-then-raw-gt0
-returns-then-raw-gt0 c =
-    wrote_as [] _ (raw-nothing c.args.raw (written c.args.text.now c.args.e) (omega (arith, c.if-raw-gt0.true))) (wrote_none c.args.out.now c.args.at c.requires)
+returns-then-raw-gt0 c = wrote_as [] _ (raw-nothing c.args.raw (written c.args.text.now c.args.e) (omega (arith, c.if-raw-gt0.true))) (wrote_none c.args.out.now c.args.at c.requires)
 
 pub returns : goal.returns
-returns c = let a = c.args in
-    wrote_as _ _ (raw-all a.raw (written a.text.now a.e) (omega (arith, c.if-raw-gt0.false))) c.put_event.ensures
+returns c = wrote_as _ _ (raw-all c.args.raw (written c.args.text.now c.args.e) (omega (arith, c.if-raw-gt0.false))) c.put_event.ensures

@@ -10,79 +10,45 @@ use Rattle.render.proofs.Turns.{part-turn, part-full, part-plain, part_end, with
 use Rattle.render.proofs.put_part.Goals as goal
 
 pub loop-i-init : goal.loop-i-init
-loop-i-init c = let smaller = c.smaller-end in
-    let args = c.args in
-    let pre = c.requires in
-    (smaller.ensures, left-all args.out.now args.at (escaped (part args.text.now args.from args.to)) pre)
+loop-i-init c = (c.smaller-end.ensures, left-all c.args.out.now c.args.at (escaped (part c.args.text.now c.args.from c.args.to)) c.requires)
 
 pub put_plain-k-requires : goal.put_plain-k-requires
-put_plain-k-requires c = let loop-test = c.loop-i-test in
-    let loop = c.loop-i in
-    record { from_le_end = omega (arith, loop-test.true); end_in_bounds = omega (arith, loop.invariant.0); at_in_bounds = omega (arith, loop.invariant.1.within, loop.invariant.1.size) }
+put_plain-k-requires c = record { from_le_end = omega (arith, c.loop-i-test.true); end_in_bounds = omega (arith, c.loop-i.invariant.0); at_in_bounds = omega (arith, c.loop-i.invariant.1.within, c.loop-i.invariant.1.size) }
 
 pub overflow_add-n : goal.overflow_add-n
-overflow_add-n c = let put-plain = c.put_plain-k in
-    search (rules, within-to put-plain.ensures.1)
+overflow_add-n c = search (rules, within-to c.put_plain-k.ensures.wrote)
 
 pub bounds-text-i : goal.bounds-text-i
-bounds-text-i c = let if1 = c.if-i-end in
-    let loop = c.loop-i in
-    omega (arith, if1.true, loop.invariant.0)
+bounds-text-i c = omega (arith, c.if-i-end.true, c.loop-i.invariant.0)
 
 pub put_escaped-requires : goal.put_escaped-requires
-put_escaped-requires c = let put-plain = c.put_plain-k in
-    omega (arith, within-to put-plain.ensures.1, put-plain.ensures.1.size)
+put_escaped-requires c = omega (arith, within-to c.put_plain-k.ensures.wrote, c.put_plain-k.ensures.wrote.size)
 
 pub shape_of-out-in_default : goal.shape_of-out-in_default
-shape_of-out-in_default c = let put-escaped = c.put_escaped in
-    let put-plain = c.put_plain-k in
-    let loop = c.loop-i in
-    put-escaped.ensures.size ∙ put-plain.ensures.1.size ∙ loop.invariant.1.size
+shape_of-out-in_default c = c.put_escaped.ensures.size ∙ c.put_plain-k.ensures.wrote.size ∙ c.loop-i.invariant.1.size
 
 pub returns-in_default : goal.returns-in_default
-returns-in_default c = let args = c.args in
-    let loop = c.loop-i in
-    let put-plain = c.put_plain-k in
-    let if1 = c.if-i-end in
-    let put-escaped = c.put_escaped in
-    let enum_told = c.enum_told-1 in
-    part-full args.text.now (loop.i + put-plain.result) args.to (part-plain args.text.now loop.i args.to loop.invariant.1 put-plain.result (omega (arith, loop.invariant.0, put-plain.ensures.0)) (put-plain.new.h) put-plain.ensures.1)
-    (omega (arith, loop.invariant.0, if1.true)) put-escaped.result (put-escaped.new.out) put-escaped.ensures enum_told.given.1
+returns-in_default c = part-full c.args.text.now (c.loop-i.i + c.put_plain-k.result) c.args.to (part-plain c.args.text.now c.loop-i.i c.args.to c.loop-i.invariant.1 c.put_plain-k.result (omega (arith, c.loop-i.invariant.0, c.put_plain-k.ensures.result_bound)) (c.put_plain-k.new.out) c.put_plain-k.ensures.wrote)
+    (omega (arith, c.loop-i.invariant.0, c.if-i-end.true)) c.put_escaped.result (c.put_escaped.new.out) c.put_escaped.ensures c.in_default.is
 
 pub loop-i-smaller-then-i-end : goal.loop-i-smaller-then-i-end
-loop-i-smaller-then-i-end c = let if1 = c.if-i-end in
-    let loop-test = c.loop-i-test in
-    omega (arith, if1.true, loop-test.true)
+loop-i-smaller-then-i-end c = omega (arith, c.if-i-end.true, c.loop-i-test.true)
 
 pub loop-i-preserved-then-i-end : goal.loop-i-preserved-then-i-end
-loop-i-preserved-then-i-end c = let loop = c.loop-i in
-    let args = c.args in
-    let put-plain = c.put_plain-k in
-    let if1 = c.if-i-end in
-    let put-escaped = c.put_escaped in
-    let next = c.next-1 in (
-      loop.invariant.0,
-      part-turn args.text.now (loop.i + put-plain.result) args.to (part-plain args.text.now loop.i args.to loop.invariant.1 put-plain.result (omega (arith, loop.invariant.0, put-plain.ensures.0)) (put-plain.new.h) put-plain.ensures.1)
-          (omega (arith, loop.invariant.0, if1.true)) put-escaped.result (put-escaped.new.out) put-escaped.ensures next.given.0.0 next.given.1,
+loop-i-preserved-then-i-end c = (
+      c.loop-i.invariant.0,
+      part-turn c.args.text.now (c.loop-i.i + c.put_plain-k.result) c.args.to (part-plain c.args.text.now c.loop-i.i c.args.to c.loop-i.invariant.1 c.put_plain-k.result (omega (arith, c.loop-i.invariant.0, c.put_plain-k.ensures.result_bound)) (c.put_plain-k.new.out) c.put_plain-k.ensures.wrote)
+          (omega (arith, c.loop-i.invariant.0, c.if-i-end.true)) c.put_escaped.result (c.put_escaped.new.out) c.put_escaped.ensures c.in-To.next c.in-To.is,
     )
 
 pub loop-i-smaller : goal.loop-i-smaller
-loop-i-smaller c = let if1 = c.if-i-end in
-    let loop-test = c.loop-i-test in
-    omega (arith, if1.false, loop-test.true)
+loop-i-smaller c = omega (arith, c.if-i-end.false, c.loop-i-test.true)
 
 pub loop-i-preserved : goal.loop-i-preserved
-loop-i-preserved c = let loop = c.loop-i in
-    let args = c.args in
-    let put-plain = c.put_plain-k in
-    (loop.invariant.0, part-plain args.text.now loop.i args.to loop.invariant.1 put-plain.result (omega (arith, loop.invariant.0, put-plain.ensures.0)) (put-plain.new.h) put-plain.ensures.1)
+loop-i-preserved c = (c.loop-i.invariant.0, part-plain c.args.text.now c.loop-i.i c.args.to c.loop-i.invariant.1 c.put_plain-k.result (omega (arith, c.loop-i.invariant.0, c.put_plain-k.ensures.result_bound)) (c.put_plain-k.new.out) c.put_plain-k.ensures.wrote)
 
 pub shape_of-out : goal.shape_of-out
-shape_of-out c = let loop = c.loop-i in
-    loop.invariant.1.size
+shape_of-out c = c.loop-i.invariant.1.size
 
 pub returns : goal.returns
-returns c = let args = c.args in
-    let loop = c.loop-i in
-    let loop-test = c.loop-i-test in
-    part_end args.text.now loop.i args.to loop.invariant.1 (omega (arith, loop.invariant.0, loop-test.false))
+returns c = part_end c.args.text.now c.loop-i.i c.args.to c.loop-i.invariant.1 (omega (arith, c.loop-i.invariant.0, c.loop-i-test.false))

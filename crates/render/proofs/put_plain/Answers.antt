@@ -5,51 +5,28 @@ use Rattle.render.proofs.Turns.{plain-none, plain_more}
 use Rattle.render.proofs.put_plain.Goals as goal
 
 pub loop-k-init : goal.loop-k-init
-loop-k-init c = let smaller = c.smaller-most in
-    let args = c.args in
-    let pre = c.requires in
-    (smaller.ensures, omega arith, plain-none args.text.now args.from args.out.now args.at pre.1.1)
+loop-k-init c = (c.smaller-most.ensures, omega arith, plain-none c.args.text.now c.args.from c.args.out.now c.args.at c.requires.at_in_bounds)
 
 pub overflow_add-b : goal.overflow_add-b
-overflow_add-b c = let loop = c.loop-k in
-    let loop-test = c.loop-k-test in
-    let pre = c.requires in
-    omega (arith, loop.invariant.0, loop-test.true, pre.0, pre.1.0)
+overflow_add-b c = omega (arith, c.loop-k.invariant.0, c.loop-k-test.true, c.requires.from_le_end, c.requires.end_in_bounds)
 
 pub bounds-text-from : goal.bounds-text-from
-bounds-text-from c = let loop = c.loop-k in
-    let loop-test = c.loop-k-test in
-    let pre = c.requires in
-    omega (arith, loop.invariant.0, loop-test.true, pre.0, pre.1.0)
+bounds-text-from c = omega (arith, c.loop-k.invariant.0, c.loop-k-test.true, c.requires.from_le_end, c.requires.end_in_bounds)
 
 pub shape_of-out-then-b : goal.shape_of-out-then-b
-shape_of-out-then-b c = let loop = c.loop-k in
-    loop.invariant.2.size
+shape_of-out-then-b c = c.loop-k.invariant.2.size
 
 pub returns-then-b : goal.returns-then-b
-returns-then-b c = let loop = c.loop-k in
-    let pre = c.requires in
-    record { result_bound = omega (arith, loop.invariant.0, loop.invariant.1, pre.0); wrote = loop.invariant.2 }
+returns-then-b c = record { result_bound = omega (arith, c.loop-k.invariant.0, c.loop-k.invariant.1, c.requires.from_le_end); wrote = c.loop-k.invariant.2 }
 
 pub bounds-out-at : goal.bounds-out-at
-bounds-out-at c = let loop = c.loop-k in
-    let loop-test = c.loop-k-test in
-    let pre = c.requires in
-    omega (arith, loop.invariant.0, loop-test.true, pre.1.1, loop.invariant.2.size)
+bounds-out-at c = omega (arith, c.loop-k.invariant.0, c.loop-k-test.true, c.requires.at_in_bounds, c.loop-k.invariant.2.size)
 
 pub loop-k-preserved : goal.loop-k-preserved
-loop-k-preserved c = let loop = c.loop-k in
-    let loop-test = c.loop-k-test in
-    let args = c.args in
-    let pre = c.requires in
-    let if1 = c.if-b in
-    (loop.invariant.0, omega (arith, loop-test.true), plain_more args.text.now args.from args.out.now args.at pre.1.1 loop.k loop.out loop.invariant.2 (omega (arith, loop.invariant.0, loop-test.true, pre.0, pre.1.0)) (omega (arith, loop.invariant.0, loop-test.true, pre.1.1)) if1.false)
+loop-k-preserved c = (c.loop-k.invariant.0, omega (arith, c.loop-k-test.true), plain_more c.args.text.now c.args.from c.args.out.now c.args.at c.requires.at_in_bounds c.loop-k.k c.loop-k.out c.loop-k.invariant.2 (omega (arith, c.loop-k.invariant.0, c.loop-k-test.true, c.requires.from_le_end, c.requires.end_in_bounds)) (omega (arith, c.loop-k.invariant.0, c.loop-k-test.true, c.requires.at_in_bounds)) c.if-b.false)
 
 pub shape_of-out : goal.shape_of-out
-shape_of-out c = let loop = c.loop-k in
-    loop.invariant.2.size
+shape_of-out c = c.loop-k.invariant.2.size
 
 pub returns : goal.returns
-returns c = let loop = c.loop-k in
-    let pre = c.requires in
-    record { result_bound = omega (arith, loop.invariant.0, loop.invariant.1, pre.0); wrote = loop.invariant.2 }
+returns c = record { result_bound = omega (arith, c.loop-k.invariant.0, c.loop-k.invariant.1, c.requires.from_le_end); wrote = c.loop-k.invariant.2 }

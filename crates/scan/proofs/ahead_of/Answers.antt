@@ -7,8 +7,7 @@ use Rattle.classes.proofs.Parts.{part-from}
 use Rattle.scan.proofs.ahead_of.Goals as goal
 
 pub returns-then-from-src : goal.returns-then-from-src
-returns-then-from-src c = let a = c.args in part-from a.src.now a.from
+returns-then-from-src c = part-from c.args.src.now c.args.from
 
 pub returns : goal.returns
-returns c = let a = c.args in
-    part-from a.src.now (length a.src.now) ∙ drop-length a.src.now ∙ sym (drop_of_length-le a.src.now {i = a.from} (omega arith))
+returns c = part-from c.args.src.now (length c.args.src.now) ∙ drop-length c.args.src.now ∙ sym (drop_of_length-le c.args.src.now {i = c.args.from} (omega arith))

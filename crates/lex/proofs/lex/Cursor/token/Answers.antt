@@ -3,7 +3,7 @@ use Rattle.lex.proofs.Front.{at_end, at-escaped, at-begun}
 use Rattle.lex.proofs.lex.Cursor.token.Goals as goal
 
 pub returns-then-src-pos : goal.returns-then-src-pos
-returns-then-src-pos c = let a = c.args in at_end a.src.now a.pos a.escape c.if-src-pos.true
+returns-then-src-pos c = at_end c.args.src.now c.args.pos c.args.escape c.if-src-pos.true
 
 pub returns-then-escape : goal.returns-then-escape
 returns-then-escape c = at-escaped c.args.src.now c.args.pos
