@@ -103,8 +103,7 @@ fn first_line(text: &[u8]) -> &[u8] {
 fn write_tokens<W: Write>(to: &mut W, line: &[u8]) -> io::Result<()> {
     let flags = classes::classes();
     let mut c = Cursor::new(0, false);
-    let mut left = line.len();
-    while 0 < left {
+    for _ in 0..line.len() {
         let start = c.pos;
         let r = lexer::next_token(line, c, &flags);
         let found = r.token;
@@ -115,7 +114,6 @@ fn write_tokens<W: Write>(to: &mut W, line: &[u8]) -> io::Result<()> {
         let end = c.pos;
         let kind = t.kind;
         write_token(to, start, end, kind)?;
-        left -= 1;
     }
     Ok(())
 }
