@@ -8,6 +8,7 @@ ghost use Rattle.replay_sheets.specs.Rooms.{all_are, same_as, holds};
 
 use reading::{Answer, EVENT_NUMBERS, code};
 use std::io;
+use std::io::{Read, Write};
 use stored::{Case, Report, fill, fill_places, number_at};
 
 // What stands in the rooms before the call.
@@ -375,8 +376,13 @@ fn replay(sample: &[u8]) -> Report {
     }
 }
 
+// The report of what an input holds, of which no more than the room is read.
+fn replay_input<R: Read, W: Write>(from: &mut R, to: &mut W, room: &mut [u8]) -> io::Result<()> {
+    let n = input::read_full(from, room)?;
+    stored::write_report(to, replay(&room[..n]))
+}
+
 fn main(rt: HostRuntime) -> io::Result<()> {
     let mut sample = [0u8; 524288];
-    let n = input::read_full(&mut rt.reader(), &mut sample)?;
-    stored::write_report(&mut io::writer(&rt), replay(&sample[..n]))
+    replay_input(&mut rt.reader(), &mut io::writer(&rt), &mut sample)
 }
