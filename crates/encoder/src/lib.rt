@@ -136,7 +136,7 @@ fn check_rest(events: &[u32], n: usize, from: usize, before: u32) -> Put
 fn put_events(events: &[u32], n: usize, out: &mut [u8], from: usize) -> Put
     requires event_numbers_in_bounds { n * event_numbers ≤ length events.now }
     requires from_in_bounds { from ≤ length out.old }
-    ensures { Puts out.old from (spelled_all (fields_all 0 (listed n events.now))) (listed n events.now) result out.exit.now }
+    ensures { Puts out.old from (spelled_all (fields_all 0 (listed n events.now))) (listed n events.now) result out.new }
 {
     let mut at = from;
     let mut prev = 0;

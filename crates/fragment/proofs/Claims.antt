@@ -146,7 +146,7 @@ module _ (text : List ℕ) (ls : List Line) (reading : ℕ) (rooms : Rooms) wher
       claim : o.answer.code ≡ 0 → Shows text ls reading rooms (record { answer = acceptance o.answer (length (fragment text es)); rooms = o.rooms; out = filled (fragment text es) out })
       claim z =
           let k = accepted text ls reading rooms z in
-          record { accepted = record { whole = k.whole; count = k.count; handed = k.handed; homes = k.homes }; faithful = faithful text es k.whole.walked }
+          record { accepted = record { whole = k.whole; count = k.count; handed = k.handed }; faithful = faithful text es k.whole.walked }
 
   -- whoever lends N + 1 event records is never refused for event room
   no_nine : (out : List ℕ) (f : Fragmented) → f ≡ fragmented text ls reading rooms out → total ls + 1 ≤ length rooms.events / event_numbers → f.answer.code ≡ 9 → ⊥

@@ -21,8 +21,8 @@ pub fn write(
     out: &mut [u8],
 ) -> FragmentAnswer
     ensures out_after { fragmented_of result (rooms_of events.new queue.new openers.new labels.new) out.new ≡ fragmented
-        text.now lines.now reading (rooms_of events.old queue.old openers.old labels.entry.now) out.old }
-    ensures shows { result.code ≡ 0 → Shows text.now lines.now reading (rooms_of events.old queue.old openers.entry.now labels.old) (fragmented_of result (rooms_of events.new queue.new openers.new labels.new)
+        text.now lines.now reading (rooms_of events.old queue.old openers.old labels.old) out.old }
+    ensures shows { result.code ≡ 0 → Shows text.now lines.now reading (rooms_of events.old queue.old openers.old labels.old) (fragmented_of result (rooms_of events.new queue.new openers.new labels.new)
         out.new) }
     ensures events_suffice { total lines.now + 1 ≤ length events.old / event_numbers → result.code ≡ 9 → ⊥ }
     ensures output_suffices { enough lines.now ≤ length out.old → result.code ≡ 11 → ⊥ }

@@ -16,7 +16,7 @@ use Rattle.reading.specs.Homes.{has_home, has_link, Runs, HomeBy, LinkBy, AllHom
 use Rattle.reading.specs.Reading.{sheet, end_of}
 use Rattle.reading.specs.Questions.{Rooms, label_room, outcome}
 use Rattle.reading.specs.Walked.{Ordered, events}
-use Rattle.reading.proofs.Answers.{accepted, short}
+use Rattle.reading.proofs.Answers.{accepted, homed, short}
 use Rattle.packing.specs.Packed.{present, may_have, none, first_flaw}
 use Rattle.packing.proofs.Lists.{AllWritable, none_first}
 
@@ -73,5 +73,5 @@ pub sheet-sound : (text : List ℕ) (ls : List Line) (reading : ℕ) (rooms : Ro
 sheet-sound text ls reading rooms e =
     let a = accepted text ls reading rooms e in
     let o = outcome text ls reading rooms in
-    none_first 0 0 _ (homed-writable (length text) o.answer.labels 0 _ (end_of ls 0) a.whole.ordered a.homes)
+    none_first 0 0 _ (homed-writable (length text) o.answer.labels 0 _ (end_of ls 0) a.whole.ordered (homed text ls reading rooms e).homes)
     (omega (arith, a.whole.room, short text ls reading rooms e))

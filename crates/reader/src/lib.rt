@@ -5,7 +5,7 @@ ghost use Rattle.reading.specs.Events.{event_numbers};
 ghost use Rattle.reading.specs.Draining.{drain};
 ghost use Rattle.reading.specs.Reading.{sheet, read as read_of};
 ghost use Rattle.reading.specs.Questions.{total, counting, label_room, handed_out, judged, outcome};
-ghost use Rattle.reading.specs.Walked.{Accepted};
+ghost use Rattle.reading.specs.Walked.{Accepted, Homed};
 ghost use Rattle.rooms.specs.Records.{events as events_of};
 ghost use Rattle.rooms.specs.Standing.{stands};
 ghost use Rattle.inline.specs.Lines.{lines_of};
@@ -90,7 +90,7 @@ fn hand_out(
 ) -> Answer
     requires refused_value { p.refused ≡ Refused.No }
     requires parsed { Parsed p queue.old labels.old }
-    ensures { outcome_of result events.new queue.new openers.new labels.new ≡ handed_out (drain (events_of p.events queue.old)) (take p.labels labels.old) (rooms_of events.old queue.old openers.entry.now labels.old) }
+    ensures { outcome_of result events.new queue.new openers.new labels.new ≡ handed_out (drain (events_of p.events queue.old)) (take p.labels labels.old) (rooms_of events.old queue.old openers.old labels.old) }
 {
     let n = p.events;
     let bytes = p.labels;
@@ -134,7 +134,7 @@ pub fn judge(
 ) -> Answer
     requires { Parsed p queue.old labels.old }
     ensures { outcome_of result events.new queue.new openers.new labels.new ≡ judged p.refused p.fits
-        (stands p queue.old openers.old labels.old) (rooms_of events.old queue.old openers.entry.now labels.old) }
+        (stands p queue.old openers.old labels.old) (rooms_of events.old queue.old openers.old labels.old) }
 {
     let refused = p.refused;
     let brace = brace_of(refused);
@@ -158,7 +158,8 @@ pub fn read(
 ) -> Answer
     ensures labels_after { outcome_of result events.new queue.new openers.new labels.new ≡ outcome text.now
         (lines_of starts.now ends.now) reading (rooms_of events.old queue.old openers.old labels.old) }
-    ensures accepted { result.code ≡ 0 → Accepted text.now (lines_of starts.now ends.now) reading (rooms_of events.entry.now queue.old openers.old labels.old) (outcome_of result events.new queue.new openers.exit.now labels.new) }
+    ensures accepted { result.code ≡ 0 → Accepted text.now (lines_of starts.now ends.now) reading (rooms_of events.old queue.old openers.old labels.old) (outcome_of result events.new queue.new openers.new labels.new) }
+    ensures homed { result.code ≡ 0 → Homed text.now (lines_of starts.now ends.now) reading (rooms_of events.old queue.old openers.old labels.old) (outcome_of result events.new queue.new openers.new labels.new) }
     ensures events_suffice { total (lines_of starts.now ends.now) + 1 ≤ length events.old / event_numbers → result.code ≡ 9 → ⊥ }
 {
     let asked = questions::questions(text, starts, ends, reading, queue.len(), openers.len());

@@ -17,7 +17,7 @@ use Rattle.reading.specs.Draining.{drain}
 use Rattle.reading.specs.Events.{event_numbers, largest}
 use Rattle.reading.specs.Questions.{Rooms, Outcome, Fed, total, first_outside, first_early, label_room, refuses, cleared, handed_out, judged}
 use Rattle.reading.specs.Questions.{outcome_with, outcome}
-use Rattle.reading.specs.Walked.{Accepted}
+use Rattle.reading.specs.Walked.{Accepted, Homed}
 use Rattle.reading.proofs.Choose.{choose}
 use Rattle.reading.proofs.Feeding.{Rising}
 use Rattle.reading.proofs.Theorems.{up, homes, room, whole}
@@ -78,7 +78,7 @@ module _ (text : List ℕ) (ls : List Line) (reading : ℕ) (rooms : Rooms) wher
       Other : Outcome → Type 0
       Other o = o.answer.code ≡ 9 → ⊥
 
-  -- demand 3 of every accepted sheet, and the homes of its events
+  -- demand 3 of every accepted sheet
   pub accepted : (outcome text ls reading rooms).answer.code ≡ 0 → Accepted text ls reading rooms (outcome text ls reading rooms)
   unfolding handed_out
   accepted =
@@ -92,7 +92,23 @@ module _ (text : List ℕ) (ls : List Line) (reading : ℕ) (rooms : Rooms) wher
       go : (read x ls).refused ≡ refused.No → (read x ls).fits ≡ true → Fed text ls → (b : Bool) → leb (length (drain (read x ls).queue)) (length rooms.events / event_numbers) ≡ b
           → Claim (handed_out (drain (read x ls).queue) (read x ls).labels rooms)
       go r f fed true b e =
-          record { whole = whole x ls fed r; count = rw (b, handed_out); handed = rw (b, handed_out); homes = rw (b, handed_out) (homes x ls fed r f) }
+          record { whole = whole x ls fed r; count = rw (b, handed_out); handed = rw (b, handed_out) }
+      go r f fed false b e = absurd (omega (arith, rw (b, handed_out) at e))
+
+  -- the homes of the events of every accepted sheet
+  pub homed : (outcome text ls reading rooms).answer.code ≡ 0 → Homed text ls reading rooms (outcome text ls reading rooms)
+  unfolding handed_out
+  homed =
+      asks Claim (λ code at l u e. absurd (omega (arith, e, l)))
+      (λ fed. judges Claim (λ code at l u e. absurd (omega (arith, e, l))) (read x ls).refused (read x ls).fits (read x ls)
+      (λ r f. go r f fed (leb (length (drain (read x ls).queue)) (length rooms.events / event_numbers)) refl))
+    where
+      Claim : Outcome → Type 0
+      Claim o = o.answer.code ≡ 0 → Homed text ls reading rooms o
+
+      go : (read x ls).refused ≡ refused.No → (read x ls).fits ≡ true → Fed text ls → (b : Bool) → leb (length (drain (read x ls).queue)) (length rooms.events / event_numbers) ≡ b
+          → Claim (handed_out (drain (read x ls).queue) (read x ls).labels rooms)
+      go r f fed true b e = record { homes = rw (b, handed_out) (homes x ls fed r f) }
       go r f fed false b e = absurd (omega (arith, rw (b, handed_out) at e))
 
   -- a sheet that is read has a text that is not too large, and lines of it, which are no longer together

@@ -90,9 +90,12 @@ pub record Whole (x : Sheet) (ls : List Line) : Type 0 where
   pub blanks : (i : ℕ) → Of (dropped x ls) i → blank (get_or x.text i 0) ≡ true
   pub room : length (events x ls) ≤ total ls + 1
 
--- an accepted sheet: the events handed out are that list, demand 3 holds of it, and each event has the home and the link number that its kind has
+-- an accepted sheet: the events handed out are that list, and demand 3 holds of it
 pub record Accepted (text : List ℕ) (ls : List Line) (reading : ℕ) (rooms : Rooms) (o : Outcome) : Type 0 where
   pub whole : Whole (sheet text ls reading (label_room rooms.labels)) ls
   pub count : o.answer.events ≡ length (events (sheet text ls reading (label_room rooms.labels)) ls)
   pub handed : o.rooms.events ≡ filled (numbers (events (sheet text ls reading (label_room rooms.labels)) ls)) rooms.events
+
+-- and of an accepted sheet each event has the home and the link number that its kind has
+pub record Homed (text : List ℕ) (ls : List Line) (reading : ℕ) (rooms : Rooms) (o : Outcome) : Type 0 where
   pub homes : AllHomed (length text) o.answer.labels (events (sheet text ls reading (label_room rooms.labels)) ls)

@@ -6,7 +6,7 @@ ghost use Rattle.reading.specs.Machine.{view_of};
 ghost use Rattle.reading.specs.Blocks.{block_at};
 ghost use Rattle.reading.specs.Reading.{sheet, views, line as line_of, read as read_of};
 ghost use Rattle.reading.specs.Questions.{total, label_room, outcome};
-ghost use Rattle.reading.specs.Walked.{Accepted};
+ghost use Rattle.reading.specs.Walked.{Accepted, Homed};
 ghost use Rattle.inline.specs.Lines.{none};
 ghost use Rattle.inline.specs.Asks.{Sheeted, Behind, Within, StandsFor};
 ghost use Rattle.classes.specs.Classes.{Ruled};
@@ -150,7 +150,7 @@ fn parse(
     labels: &mut [u8],
 ) -> Parser
     requires { Sheeted text.now lines.now queue.old openers.old labels.old }
-    ensures { StandsFor result queue.new openers.new labels.new (read_of (sheet text.now lines.entry.now reading (length labels.old)) lines.now) }
+    ensures { StandsFor result queue.new openers.new labels.new (read_of (sheet text.now lines.now reading (length labels.old)) lines.now) }
 {
     let n = line_count(lines);
     let flags = classes::classes();
@@ -176,7 +176,7 @@ fn parse_lines(
     labels: &mut [u8],
 ) -> Parser
     requires { Passed text.now lines.now queue.old openers.old }
-    ensures stands_for { StandsFor result queue.new openers.new labels.new (read_of (sheet text.now lines.entry.now reading (label_room labels.old)) lines.now) }
+    ensures stands_for { StandsFor result queue.new openers.new labels.new (read_of (sheet text.now lines.now reading (label_room labels.old)) lines.now) }
     ensures labels_bound { result.labels < 2 ^ 32 }
 {
     let room = reader::counted(labels.len());
@@ -196,6 +196,7 @@ pub fn read(
     ensures labels_after { outcome_of result events.new queue.new openers.new labels.new ≡ outcome text.now
         lines.now reading (rooms_of events.old queue.old openers.old labels.old) }
     ensures accepted { result.code ≡ 0 → Accepted text.now lines.now reading (rooms_of events.old queue.old openers.old labels.old) (outcome_of result events.new queue.new openers.new labels.new) }
+    ensures homed { result.code ≡ 0 → Homed text.now lines.now reading (rooms_of events.old queue.old openers.old labels.old) (outcome_of result events.new queue.new openers.new labels.new) }
     ensures events_suffice { total lines.now + 1 ≤ length events.old / event_numbers → result.code ≡ 9 → ⊥ }
 {
     let asked = questions(text, lines, reading, queue.len(), openers.len());

@@ -81,7 +81,7 @@ fn settle(r: Fill, out: &mut [u8]) -> Shown
 // 10 and 11.
 fn show(text: &[u8], events: &[u32], n: usize, out: &mut [u8]) -> Shown
     requires { n * event_numbers ≤ length events.now }
-    ensures { showing result out.new ≡ shown_as (first_barred (listed n events.now)) (fragment text.now (listed n events.entry.now)) out.old }
+    ensures { showing result out.new ≡ shown_as (first_barred (listed n events.now)) (fragment text.now (listed n events.now)) out.old }
 {
     let first = find_barred(events, n);
     match first {

@@ -8,7 +8,14 @@ pub homed-requires-2 : goal.homed-requires-2
 homed-requires-2 c = record { i_bound = omega (arith, c.requires); j_bound = omega (arith, c.requires) }
 
 pub push-named-requires : goal.push-named-requires
-push-named-requires c = omega (arith, c.requires, c.push-entered.auto.queue, put-events c.args.p c.args.queue.now [] c.push-entered.result c.push-entered.new.queue (c.homed.result ∷ []) c.no_str-none.result (c.push-entered.ensures []))
+push-named-requires c = omega (
+  arith,
+  c.requires,
+  c.push-entered.auto.queue,
+  put-events c.args.p c.args.queue.now []
+      c.push-entered.result c.push-entered.new.queue (c.homed.result ∷ []) c.no_str-none.result
+      (c.push-entered.ensures []),
+)
 
 pub overflow_add-end-2 : goal.overflow_add-end-2
 overflow_add-end-2 c = omega (arith, c.requires)
@@ -17,8 +24,10 @@ pub homed-requires-3 : goal.homed-requires-3
 homed-requires-3 c = record { i_bound = omega (arith, c.requires); j_bound = omega (arith, c.requires) }
 
 pub push-out-requires : goal.push-out-requires
-push-out-requires c = let one = put-events c.args.p c.args.queue.now [] c.push-entered.result c.push-entered.new.queue (c.homed.result ∷ []) c.no_str-none.result (c.push-entered.ensures []) in
-    let two = put-events c.push-entered.result c.push-entered.new.queue [] c.push-named.result c.push-named.new.queue (c.homed-2.result ∷ []) c.no_str-none.result (c.push-named.ensures []) in
+push-out-requires c = let one = put-events c.args.p c.args.queue.now [] c.push-entered.result
+    c.push-entered.new.queue (c.homed.result ∷ []) c.no_str-none.result (c.push-entered.ensures []) in
+    let two = put-events c.push-entered.result c.push-entered.new.queue [] c.push-named.result
+    c.push-named.new.queue (c.homed-2.result ∷ []) c.no_str-none.result (c.push-named.ensures []) in
     omega (arith, c.requires, c.push-entered.auto.queue, c.push-named.auto.queue, one, two)
 
 pub overflow_add-end-3 : goal.overflow_add-end-3
@@ -28,7 +37,8 @@ pub shape_of-queue : goal.shape_of-queue
 shape_of-queue c = omega (arith, c.push-entered.auto.queue, c.push-named.auto.queue, c.push-out.auto.queue)
 
 pub returns : goal.returns
-returns c o line = autolinked-change c.args.m c.args.h c.args.p c.args.queue.now o c.args.n _ c.in_text-home.ensures c.no_str-none.result c.no_str-none.ensures
+returns c o line = autolinked-change c.args.m c.args.h c.args.p c.args.queue.now o c.args.n _ c.in_text-home.ensures
+    c.no_str-none.result c.no_str-none.ensures
     c.push-entered.result c.push-entered.new.queue c.homed.result (c.push-entered.ensures o)
     c.push-named.result c.push-named.new.queue c.homed-2.result (c.push-named.ensures o)
     c.push-out.result c.push-out.new.queue c.homed-3.result (c.push-out.ensures o)

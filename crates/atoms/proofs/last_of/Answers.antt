@@ -8,7 +8,8 @@ returns-then-kind-eq-STR c = let args = c.args in
     let if1 = c.if-kind-eq-STR in
     let place_at = c.place_at in
     let dollars-of = c.dollars_of in
-    noted-str (viewed args.m args.line.now) args.h.from args.h.to args.kind if1.true _ (rw (place_at.ensures, dollars-of.ensures))
+    noted-str (viewed args.m args.line.now) args.h.from args.h.to args.kind if1.true _
+    (rw (place_at.ensures, dollars-of.ensures))
 
 pub returns : goal.returns
 returns c = let args = c.args in

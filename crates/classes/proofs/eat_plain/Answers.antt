@@ -15,13 +15,15 @@ pub returns-then-has : goal.returns-then-has
 unfolding in_set
 returns-then-has c = let a = c.args in
     let l = c.loop-n in
-    passed_here (in_set Plain) a.s.now l.n l.invariant c.loop-n-test.true (ap not (sym (c.has.ensures ∙ (class-flags _).special) ∙ c.if-has.true))
+    passed_here (in_set Plain) a.s.now l.n l.invariant c.loop-n-test.true
+    (ap not (sym (c.has.ensures ∙ (class-flags _).special) ∙ c.if-has.true))
 
 pub loop-n-preserved : goal.loop-n-preserved
 unfolding in_set
 loop-n-preserved c = let a = c.args in
     let l = c.loop-n in
-    passed-more (in_set Plain) a.s.now l.n l.invariant c.loop-n-test.true (ap not (sym (c.has.ensures ∙ (class-flags _).special) ∙ c.if-has.false))
+    passed-more (in_set Plain) a.s.now l.n l.invariant c.loop-n-test.true
+    (ap not (sym (c.has.ensures ∙ (class-flags _).special) ∙ c.if-has.false))
 
 pub returns : goal.returns
 returns c = passed-all (in_set Plain) c.args.s.now c.loop-n.n c.loop-n.invariant c.loop-n-test.false

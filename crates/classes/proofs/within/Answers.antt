@@ -19,7 +19,8 @@ returns-in-Address c = rw (c.in-Address.is, c.has-in-Address.ensures, (class-fla
 
 pub returns-in-Unmarked : goal.returns-in-Unmarked
 unfolding in_set bytes among
-returns-in-Unmarked c = rw (c.in-Unmarked.is, c.has-in-Unmarked.ensures, (class-flags _).blank) (simp (or-false, or_assoc))
+returns-in-Unmarked c = rw (c.in-Unmarked.is, c.has-in-Unmarked.ensures, (class-flags _).blank)
+    (simp (or-false, or_assoc))
 
 pub returns-in-Name : goal.returns-in-Name
 unfolding in_set bytes among

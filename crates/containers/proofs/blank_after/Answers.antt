@@ -12,4 +12,5 @@ pub returns : goal.returns
 returns c m from b = let args = c.args in
     let is-blank = c.is_blank in
     let if1 = c.if-line-to in
-    after-byte (viewed m args.line.now) (record { from = from; to = args.to; cursor = b }) is-blank.result if1.false is-blank.ensures
+    after-byte (viewed m args.line.now) (record { from = from; to = args.to; cursor = b }) is-blank.result if1.false
+    is-blank.ensures

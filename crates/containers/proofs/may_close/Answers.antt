@@ -13,5 +13,6 @@ returns c q os l = let args = c.args in
     let two_way = c.two_way in
     let is-blank = c.is_blank-blank in
     let byte_before = c.byte_before in
-    close-tested (viewed args.m args.line.now) (here args.h args.p) (stands args.p q os l) args.o args.p.events (rows-length event_at args.p.events q) may_be_empty.result two_way.result is-blank.result
+    close-tested (viewed args.m args.line.now) (here args.h args.p) (stands args.p q os l) args.o args.p.events
+    (rows-length event_at args.p.events q) may_be_empty.result two_way.result is-blank.result
     may_be_empty.ensures two_way.ensures (is-blank.ensures ∙ ap blank byte_before.ensures)

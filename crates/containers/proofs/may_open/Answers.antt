@@ -12,5 +12,7 @@ returns c q os l = let args = c.args in
     let is_single = c.is_single in
     let is-blank = c.is_blank-blank in
     let byte_before = c.byte_before in
-    open-tested (viewed args.m args.line.now) (here args.h args.p) (stands args.p q os l) args.sort two_way.result blank_after.result is_single.result is-blank.result
-    two_way.ensures (blank_after.ensures args.m args.h.from args.p.cursor) is_single.ensures (is-blank.ensures ∙ ap blank byte_before.ensures)
+    open-tested (viewed args.m args.line.now) (here args.h args.p) (stands args.p q os l) args.sort two_way.result
+    blank_after.result is_single.result is-blank.result
+    two_way.ensures (blank_after.ensures args.m args.h.from args.p.cursor) is_single.ensures
+    (is-blank.ensures ∙ ap blank byte_before.ensures)

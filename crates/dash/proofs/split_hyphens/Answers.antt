@@ -15,7 +15,15 @@ pub returns-then-len-lt2 : goal.returns-then-len-lt2
 returns-then-len-lt2 c = c.split.ensures ∙ split-none _ c.if-len-lt2.true
 
 pub overflow_sub-len-in-1 : goal.overflow_sub-len-in-1
-overflow_sub-len-in-1 c = let e : c.args.len % 6 ≡ 1 = elim c.in-1-1.branch [ in-1-1 w ↦ w.in-1-1.keys4 | in_default-1 w ↦ omega (arith, neither w.in_default-1.rest.0.0.0.1, neither w.in_default-1.rest.0.0.1) ] in omega (arith, e)
+overflow_sub-len-in-1 c = let e : c.args.len % 6 ≡ 1 = elim c.in-1-1.branch [
+  | in-1-1 w ↦ w.in-1-1.keys4
+  | in_default-1 w ↦ omega (
+    arith,
+    neither w.in_default-1.rest.0.0.0.1,
+    neither
+        w.in_default-1.rest.0.0.1,
+  )
+] in omega (arith, e)
 
 pub returns-in-0 : goal.returns-in-0
 unfolding six_cases by_six
@@ -31,4 +39,9 @@ returns-in-5 c = c.split-in-5.ensures ∙ by-six _ c.if-len-lt2.false 5 c.in-5.i
 
 pub returns-in-1 : goal.returns-in-1
 unfolding six_cases by_six
-returns-in-1 c = c.split-in-1.ensures ∙ by-six _ c.if-len-lt2.false 1 (elim c.in-1-1.branch [ in-1-1 w ↦ w.in-1-1.keys4 | in_default-1 w ↦ omega (arith, neither w.in_default-1.rest.0.0.0.1, neither w.in_default-1.rest.0.0.1) ])
+returns-in-1 c = c.split-in-1.ensures ∙ by-six _ c.if-len-lt2.false 1
+    (elim c.in-1-1.branch [
+      | in-1-1 w ↦ w.in-1-1.keys4
+      | in_default-1 w ↦ omega
+          (arith, neither w.in_default-1.rest.0.0.0.1, neither w.in_default-1.rest.0.0.1)
+    ])

@@ -14,15 +14,18 @@ pub keep_event-requires : goal.keep_event-requires
 keep_event-requires c = seen-fits c.loop-i.invariant c.loop-i-test.true
 
 pub loop-i-preserved : goal.loop-i-preserved
-loop-i-preserved c = subst (λ (room : List ℕ). Seen c.args.bytes.now c.args.from c.args.n c.args.keep c.args.room.now room c.in-Event.next c.in-Event.e.end.0 (c.loop-i.i + 1)) (sym c.keep_event.ensures)
-    (seen_more c.loop-i.invariant c.loop-i-test.true c.in-Event.e c.in-Event.next (event-got c.event_from-r.ensures c.in-Event.is))
+loop-i-preserved c = subst (λ (room : List ℕ). Seen c.args.bytes.now c.args.from c.args.n c.args.keep
+    c.args.room.now room c.in-Event.next c.in-Event.e.end.0 (c.loop-i.i + 1)) (sym c.keep_event.ensures)
+    (seen_more c.loop-i.invariant c.loop-i-test.true c.in-Event.e c.in-Event.next
+    (event-got c.event_from-r.ensures c.in-Event.is))
 
 pub shape_of-room-in-Fault : goal.shape_of-room-in-Fault
 shape_of-room-in-Fault c = c.loop-i.invariant.size
 
 pub returns-in-Fault : goal.returns-in-Fault
 unfolding events_read
-returns-in-Fault c = seen-fault c.loop-i.invariant c.loop-i-test.true _ _ (event-fault c.event_from-r.ensures c.in-Fault.is)
+returns-in-Fault c = seen-fault c.loop-i.invariant c.loop-i-test.true _ _
+    (event-fault c.event_from-r.ensures c.in-Fault.is)
 
 pub shape_of-room-then-at-bytes : goal.shape_of-room-then-at-bytes
 shape_of-room-then-at-bytes c = c.loop-i.invariant.size

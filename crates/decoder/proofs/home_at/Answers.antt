@@ -10,11 +10,15 @@ use Rattle.decoder.proofs.home_at.Goals as goal
 
 pub returns-then-may_have : goal.returns-then-may_have
 unfolding number_read
-returns-then-may_have c = sym (asked-got c.args.bytes.now c.args.at (may-have-of c.args.kind) WrongHome (λ (n : ℕ). n) c.in-Number.h c.in-Number.next (number-got c.number_at-r.ensures c.in-Number.is) (sym c.may_have.ensures ∙ c.if-may_have.true))
+returns-then-may_have c = sym (asked-got c.args.bytes.now c.args.at (may-have-of c.args.kind) WrongHome
+    (λ (n : ℕ). n) c.in-Number.h c.in-Number.next (number-got c.number_at-r.ensures c.in-Number.is)
+    (sym c.may_have.ensures ∙ c.if-may_have.true))
 
 pub returns-else-may_have : goal.returns-else-may_have
 unfolding number_read
-returns-else-may_have c = sym (asked-bad c.args.bytes.now c.args.at (may-have-of c.args.kind) WrongHome (λ (n : ℕ). n) c.in-Number.h c.in-Number.next (number-got c.number_at-r.ensures c.in-Number.is) (sym c.may_have.ensures ∙ c.if-may_have.false))
+returns-else-may_have c = sym (asked-bad c.args.bytes.now c.args.at (may-have-of c.args.kind) WrongHome
+    (λ (n : ℕ). n) c.in-Number.h c.in-Number.next (number-got c.number_at-r.ensures c.in-Number.is)
+    (sym c.may_have.ensures ∙ c.if-may_have.false))
 
 pub returns-in-Fault : goal.returns-in-Fault
 unfolding number_read

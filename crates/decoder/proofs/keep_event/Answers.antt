@@ -9,7 +9,8 @@ store-requires c = c.requires c.if-keep.true
 
 pub returns-then-keep : goal.returns-then-keep
 unfolding storing
-returns-then-keep c = c.store.ensures ∙ ap (λ (b : Bool). storing b c.args.room.now c.args.i c.args.e) (sym c.if-keep.true)
+returns-then-keep c = c.store.ensures ∙ ap (λ (b : Bool). storing b c.args.room.now c.args.i c.args.e)
+    (sym c.if-keep.true)
 
 pub returns-else-keep : goal.returns-else-keep
 unfolding storing

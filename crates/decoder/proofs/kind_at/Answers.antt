@@ -10,11 +10,13 @@ use Rattle.decoder.proofs.kind_at.Goals as goal
 
 pub returns-then-known : goal.returns-then-known
 unfolding number_read
-returns-then-known c = sym (asked-got c.args.bytes.now c.args.at Known-of UnknownKind (λ (n : ℕ). n) c.in-Number.k c.in-Number.next (number-got c.number_at-r.ensures c.in-Number.is) (sym c.known.ensures ∙ c.if-known.true))
+returns-then-known c = sym (asked-got c.args.bytes.now c.args.at Known-of UnknownKind (λ (n : ℕ). n) c.in-Number.k
+    c.in-Number.next (number-got c.number_at-r.ensures c.in-Number.is) (sym c.known.ensures ∙ c.if-known.true))
 
 pub returns-else-known : goal.returns-else-known
 unfolding number_read
-returns-else-known c = sym (asked-bad c.args.bytes.now c.args.at Known-of UnknownKind (λ (n : ℕ). n) c.in-Number.k c.in-Number.next (number-got c.number_at-r.ensures c.in-Number.is) (sym c.known.ensures ∙ c.if-known.false))
+returns-else-known c = sym (asked-bad c.args.bytes.now c.args.at Known-of UnknownKind (λ (n : ℕ). n) c.in-Number.k
+    c.in-Number.next (number-got c.number_at-r.ensures c.in-Number.is) (sym c.known.ensures ∙ c.if-known.false))
 
 pub returns-in-Fault : goal.returns-in-Fault
 unfolding number_read

@@ -8,8 +8,10 @@ use Rattle.decoder.proofs.link_at.Goals as goal
 
 pub returns-then-has_link : goal.returns-then-has_link
 unfolding number_read
-returns-then-has_link c = c.number_at.ensures ∙ sym (optional-some (has-link-of c.args.kind) (a_number c.args.bytes.now) c.args.at (sym c.has_link.ensures ∙ c.if-has_link.true))
+returns-then-has_link c = c.number_at.ensures ∙ sym (optional-some (has-link-of c.args.kind)
+    (a_number c.args.bytes.now) c.args.at (sym c.has_link.ensures ∙ c.if-has_link.true))
 
 pub returns : goal.returns
 unfolding number_read
-returns c = sym (optional-none (has-link-of c.args.kind) (a_number c.args.bytes.now) c.args.at (sym c.has_link.ensures ∙ c.if-has_link.false))
+returns c = sym (optional-none (has-link-of c.args.kind) (a_number c.args.bytes.now) c.args.at
+    (sym c.has_link.ensures ∙ c.if-has_link.false))

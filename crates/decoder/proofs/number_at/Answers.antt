@@ -19,4 +19,5 @@ returns-in-Longer c = ap (number_as (length c.args.bytes.now) c.args.at) (sym c.
 
 pub returns-in-TooLarge : goal.returns-in-TooLarge
 unfolding number_as number_read
-returns-in-TooLarge c = ap (number_as (length c.args.bytes.now) c.args.at) (sym c.in-TooLarge.is ∙ c.number_at-n.ensures)
+returns-in-TooLarge c = ap (number_as (length c.args.bytes.now) c.args.at)
+    (sym c.in-TooLarge.is ∙ c.number_at-n.ensures)

@@ -8,11 +8,13 @@ use Rattle.decoder.proofs.sum_at.Goals as goal
 
 pub returns-then-base-n : goal.returns-then-base-n
 unfolding number_read
-returns-then-base-n c = sym (sum-beyond c.args.bytes.now c.args.at c.args.base c.in-Number.n c.in-Number.next (number-got c.number_at-r.ensures c.in-Number.is) (omega (arith, c.if-base-n.true)))
+returns-then-base-n c = sym (sum-beyond c.args.bytes.now c.args.at c.args.base c.in-Number.n c.in-Number.next
+    (number-got c.number_at-r.ensures c.in-Number.is) (omega (arith, c.if-base-n.true)))
 
 pub returns-else-base-n : goal.returns-else-base-n
 unfolding number_read
-returns-else-base-n c = sym (sum-got c.args.bytes.now c.args.at c.args.base c.in-Number.n c.in-Number.next (number-got c.number_at-r.ensures c.in-Number.is) (omega (arith, c.if-base-n.false)))
+returns-else-base-n c = sym (sum-got c.args.bytes.now c.args.at c.args.base c.in-Number.n c.in-Number.next
+    (number-got c.number_at-r.ensures c.in-Number.is) (omega (arith, c.if-base-n.false)))
 
 pub returns-in-Fault : goal.returns-in-Fault
 unfolding number_read

@@ -10,14 +10,22 @@ pub loop-i-init : goal.loop-i-init
 loop-i-init c = head_first c.args.queue.now c.args.n c.args.room.now
 
 pub returns-in_default : goal.returns-in_default
-returns-in_default c = let both = drained-answer (draining.drain (events c.args.n c.args.queue.now)) c.args.room.now c.drain_event.new.room _
-    (head-full c.args.queue.now c.args.n c.args.room.now c.loop-i.room c.loop-i.h c.loop-i.i c.loop-i.invariant c.loop-i-test.true c.event_at.result c.event_at.ensures c.drain_event.result c.drain_event.new.room c.drain_event.ensures
+returns-in_default c = let both = drained-answer (draining.drain (events c.args.n c.args.queue.now)) c.args.room.now
+    c.drain_event.new.room _
+    (head-full c.args.queue.now c.args.n c.args.room.now c.loop-i.room c.loop-i.h c.loop-i.i c.loop-i.invariant
+    c.loop-i-test.true c.event_at.result c.event_at.ensures c.drain_event.result c.drain_event.new.room
+    c.drain_event.ensures
     c.in_default.is) in record { value = both.0; room_after = both.1 }
 
 pub loop-i-preserved : goal.loop-i-preserved
-loop-i-preserved c = head-next c.args.queue.now c.args.n c.args.room.now c.loop-i.room c.loop-i.h c.loop-i.i c.loop-i.invariant c.loop-i-test.true c.event_at.result c.event_at.ensures c.drain_event.result c.drain_event.new.room c.drain_event.ensures
+loop-i-preserved c = head-next c.args.queue.now c.args.n c.args.room.now c.loop-i.room c.loop-i.h c.loop-i.i
+    c.loop-i.invariant c.loop-i-test.true c.event_at.result c.event_at.ensures c.drain_event.result
+    c.drain_event.new.room c.drain_event.ensures
     c.in-On.next c.in-On.is (search rules)
 
 pub returns : goal.returns
-returns c = let both = drained-answer (draining.drain (events c.args.n c.args.queue.now)) c.args.room.now c.flush.new.room c.flush.result
-    (head-last c.args.queue.now c.args.n c.args.room.now c.loop-i.room c.loop-i.h c.loop-i.i c.loop-i.invariant c.loop-i-test.false c.flush.result c.flush.new.room c.flush.ensures) in record { value = both.0; room_after = both.1 }
+returns c = let both = drained-answer (draining.drain (events c.args.n c.args.queue.now)) c.args.room.now
+    c.flush.new.room c.flush.result
+    (head-last c.args.queue.now c.args.n c.args.room.now c.loop-i.room c.loop-i.h c.loop-i.i c.loop-i.invariant
+    c.loop-i-test.false c.flush.result c.flush.new.room c.flush.ensures) in
+    record { value = both.0; room_after = both.1 }

@@ -13,16 +13,21 @@ returns-then-e-ne-STR c es = c.drain_other.ensures es
 
 pub returns-then-h-start : goal.returns-then-h-start
 unfolding rest
-returns-then-h-start c es = turn-grows c.args.h.start c.args.h.end c.args.e es (out (All c.args.h.count) c.args.room.now) c.if-e-ne-STR.false c.if-h-start.true
+returns-then-h-start c es = turn-grows c.args.h.start c.args.h.end c.args.e es
+    (out (All c.args.h.count) c.args.room.now) c.if-e-ne-STR.false c.if-h-start.true
 
 pub returns-in_default : goal.returns-in_default
 unfolding rest
-returns-in_default c es = flush-full c.args.h.start c.args.h.end c.args.h.count c.args.room.now c.flush.new.room c.flush.result c.flush.ensures c.in_default.is
+returns-in_default c es = flush-full c.args.h.start c.args.h.end c.args.h.count c.args.room.now c.flush.new.room
+    c.flush.result c.flush.ensures c.in_default.is
     (drained c.args.e.start.0 c.args.e.end.0 es)
-    ∙ turn-apart c.args.h.start c.args.h.end c.args.e es (out (All c.args.h.count) c.args.room.now) c.if-e-ne-STR.false c.if-h-start.false
+    ∙ turn-apart c.args.h.start c.args.h.end c.args.e es (out (All c.args.h.count) c.args.room.now)
+    c.if-e-ne-STR.false c.if-h-start.false
 
 pub returns : goal.returns
 unfolding rest
-returns c es = flush-on c.args.h.start c.args.h.end c.args.h.count c.args.room.now c.flush.new.room c.flush.result c.flush.ensures c.in-All.count c.in-All.is
+returns c es = flush-on c.args.h.start c.args.h.end c.args.h.count c.args.room.now c.flush.new.room c.flush.result
+    c.flush.ensures c.in-All.count c.in-All.is
     (drained c.args.e.start.0 c.args.e.end.0 es)
-    ∙ turn-apart c.args.h.start c.args.h.end c.args.e es (out (All c.args.h.count) c.args.room.now) c.if-e-ne-STR.false c.if-h-start.false
+    ∙ turn-apart c.args.h.start c.args.h.end c.args.e es (out (All c.args.h.count) c.args.room.now)
+    c.if-e-ne-STR.false c.if-h-start.false

@@ -6,4 +6,5 @@ use Rattle.exports.specs.Numbers.{step_of}
 use Rattle.exports.proofs.mivurakol_peek.Goals as goal
 
 pub returns : goal.returns
-returns c = c.step_of.ensures ∙ ap (λ (l : Lexed). step_of l) (c.peek_token.ensures ∙ ap (peek_of _) c.cursor_of.ensures)
+returns c = c.step_of.ensures ∙ ap (λ (l : Lexed). step_of l) (c.peek_token.ensures ∙ ap (peek_of _)
+    c.cursor_of.ensures)

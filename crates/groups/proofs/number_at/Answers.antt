@@ -14,7 +14,16 @@ pub returns-then-b-lt-HIGH : goal.returns-then-b-lt-HIGH
 returns-then-b-lt-HIGH c = number-one c.args.bytes.now c.args.at c.if-bytes-at.false c.if-b-lt-HIGH.true
 
 pub more-requires : goal.more-requires
-more-requires c = record { at_in_bounds = omega (arith, c.shared_slice_known-2-1.given c.args.at, c.if-bytes-at.false, c.if-b-lt-HIGH.false); low_bound = omega (arith, c.shared_slice_known-2-1.given c.args.at, c.if-bytes-at.false, c.if-b-lt-HIGH.false) }
+more-requires c = record {
+  at_in_bounds = omega (
+    arith,
+    c.shared_slice_known-2-1.given c.args.at,
+    c.if-bytes-at.false,
+    c.if-b-lt-HIGH.false,
+  );
+  low_bound = omega
+      (arith, c.shared_slice_known-2-1.given c.args.at, c.if-bytes-at.false, c.if-b-lt-HIGH.false);
+}
 
 pub returns : goal.returns
 returns c = c.more.ensures ∙ number_more c.args.bytes.now c.args.at c.if-bytes-at.false c.if-b-lt-HIGH.false

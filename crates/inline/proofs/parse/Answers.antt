@@ -8,25 +8,66 @@ use Rattle.inline.proofs.Sheets.{head_first, head-behind, head-next, end-small, 
 use Rattle.inline.proofs.parse.Goals as goal
 
 pub loop-i-init : goal.loop-i-init
-loop-i-init c = head_first c.args.text.now (lines_of c.args.starts.now c.args.ends.now) c.args.reading c.args.queue.now c.args.openers.now c.args.labels.now c.requires.sheeted c.fresh-p.result c.fresh-p.ensures.by_index c.fresh-p.ensures.labels_value
+loop-i-init c = head_first c.args.text.now (lines_of c.args.starts.now c.args.ends.now) c.args.reading
+    c.args.queue.now c.args.openers.now c.args.labels.now c.requires.sheeted c.fresh-p.result
+    c.fresh-p.ensures.by_index c.fresh-p.ensures.labels_value
 
 pub bounds-ends-i : goal.bounds-ends-i
 bounds-ends-i c = omega (arith, c.loop-i-test.true, c.requires.starts_len)
 
 pub parse_line-p-requires : goal.parse_line-p-requires
-parse_line-p-requires c = record { starts_len = c.requires.starts_len; behind = head-behind c.args.text.now (lines_of c.args.starts.now c.args.ends.now) c.args.reading c.args.queue.now c.args.openers.now c.args.labels.now c.requires.sheeted c.loop-i.queue c.loop-i.openers c.loop-i.labels c.loop-i.p c.loop-i.end c.loop-i.i c.loop-i.invariant (omega (arith, c.loop-i-test.true, lines-length c.args.starts.now c.args.ends.now c.requires.starts_len)); labels_in_bounds = c.loop-i.invariant.labels; ruled = c.classes-flags.ensures }
+parse_line-p-requires c = record {
+  starts_len = c.requires.starts_len;
+  behind = head-behind c.args.text.now
+      (lines_of c.args.starts.now c.args.ends.now) c.args.reading c.args.queue.now c.args.openers.now
+      c.args.labels.now c.requires.sheeted c.loop-i.queue c.loop-i.openers c.loop-i.labels c.loop-i.p c.loop-i.end
+      c.loop-i.i c.loop-i.invariant (omega (
+        arith,
+        c.loop-i-test.true,
+        lines-length c.args.starts.now c.args.ends.now
+            c.requires.starts_len,
+      ));
+  labels_in_bounds = c.loop-i.invariant.labels;
+  ruled = c.classes-flags.ensures;
+}
 
 pub overflow_add-i : goal.overflow_add-i
-overflow_add-i c = omega (arith, c.loop-i-test.true, c.requires.1.listed, lines-length c.args.starts.now c.args.ends.now c.requires.starts_len)
+overflow_add-i c = omega (
+  arith,
+  c.loop-i-test.true,
+  c.requires.sheeted.listed,
+  lines-length c.args.starts.now
+      c.args.ends.now c.requires.starts_len,
+)
 
 pub loop-i-smaller : goal.loop-i-smaller
 loop-i-smaller c = omega (arith, c.loop-i-test.true)
 
 pub loop-i-preserved : goal.loop-i-preserved
-loop-i-preserved c = head-next c.args.text.now (lines_of c.args.starts.now c.args.ends.now) c.args.reading c.args.queue.now c.args.openers.now c.args.labels.now c.requires.sheeted c.loop-i.queue c.loop-i.openers c.loop-i.labels c.loop-i.p c.loop-i.end c.loop-i.i c.loop-i.invariant (omega (arith, c.loop-i-test.true, lines-length c.args.starts.now c.args.ends.now c.requires.starts_len)) c.parse_line-p.result c.parse_line-p.new.queue c.parse_line-p.new.openers c.parse_line-p.new.labels c.parse_line-p.ensures c.parse_line-p.auto.queue c.parse_line-p.auto.openers c.parse_line-p.auto.labels _ (ap (λ z. z.end) (lines_at c.args.starts.now c.args.ends.now c.loop-i.i c.loop-i-test.true (omega (arith, c.loop-i-test.true, c.requires.starts_len))))
+loop-i-preserved c = head-next c.args.text.now (lines_of c.args.starts.now c.args.ends.now) c.args.reading
+    c.args.queue.now c.args.openers.now c.args.labels.now c.requires.sheeted c.loop-i.queue c.loop-i.openers
+    c.loop-i.labels c.loop-i.p c.loop-i.end c.loop-i.i c.loop-i.invariant
+    (omega (arith, c.loop-i-test.true, lines-length c.args.starts.now c.args.ends.now c.requires.starts_len))
+    c.parse_line-p.result c.parse_line-p.new.queue c.parse_line-p.new.openers c.parse_line-p.new.labels
+    c.parse_line-p.ensures c.parse_line-p.auto.queue c.parse_line-p.auto.openers c.parse_line-p.auto.labels _
+    (ap (λ z. z.end) (lines_at c.args.starts.now c.args.ends.now c.loop-i.i c.loop-i-test.true
+    (omega (arith, c.loop-i-test.true, c.requires.starts_len))))
 
 pub finish-requires : goal.finish-requires
-finish-requires c = record { end_bound = end-small c.args.text.now (lines_of c.args.starts.now c.args.ends.now) c.args.reading c.args.queue.now c.args.openers.now c.args.labels.now c.requires.sheeted c.loop-i.queue c.loop-i.openers c.loop-i.labels c.loop-i.p c.loop-i.end c.loop-i.i c.loop-i.invariant (omega (arith, c.loop-i-test.false, lines-length c.args.starts.now c.args.ends.now c.requires.starts_len)); room = end-room c.args.text.now (lines_of c.args.starts.now c.args.ends.now) c.args.reading c.args.queue.now c.args.openers.now c.args.labels.now c.requires.sheeted c.loop-i.queue c.loop-i.openers c.loop-i.labels c.loop-i.p c.loop-i.end c.loop-i.i c.loop-i.invariant (omega (arith, c.loop-i-test.false, lines-length c.args.starts.now c.args.ends.now c.requires.starts_len)); closing = end-closing c.args.text.now (lines_of c.args.starts.now c.args.ends.now) c.args.reading c.args.queue.now c.args.openers.now c.args.labels.now c.requires.sheeted c.loop-i.queue c.loop-i.openers c.loop-i.labels c.loop-i.p c.loop-i.end c.loop-i.i c.loop-i.invariant (omega (arith, c.loop-i-test.false, lines-length c.args.starts.now c.args.ends.now c.requires.starts_len)) }
+finish-requires c = record {
+  end_bound = end-small c.args.text.now (lines_of c.args.starts.now c.args.ends.now)
+      c.args.reading c.args.queue.now c.args.openers.now c.args.labels.now c.requires.sheeted c.loop-i.queue
+      c.loop-i.openers c.loop-i.labels c.loop-i.p c.loop-i.end c.loop-i.i c.loop-i.invariant
+      (omega (arith, c.loop-i-test.false, lines-length c.args.starts.now c.args.ends.now c.requires.starts_len));
+  room = end-room c.args.text.now (lines_of c.args.starts.now c.args.ends.now) c.args.reading c.args.queue.now
+      c.args.openers.now c.args.labels.now c.requires.sheeted c.loop-i.queue c.loop-i.openers c.loop-i.labels
+      c.loop-i.p c.loop-i.end c.loop-i.i c.loop-i.invariant (omega
+      (arith, c.loop-i-test.false, lines-length c.args.starts.now c.args.ends.now c.requires.starts_len));
+  closing = end-closing c.args.text.now (lines_of c.args.starts.now c.args.ends.now) c.args.reading
+      c.args.queue.now c.args.openers.now c.args.labels.now c.requires.sheeted c.loop-i.queue c.loop-i.openers
+      c.loop-i.labels c.loop-i.p c.loop-i.end c.loop-i.i c.loop-i.invariant
+      (omega (arith, c.loop-i-test.false, lines-length c.args.starts.now c.args.ends.now c.requires.starts_len));
+}
 
 pub shape_of-queue : goal.shape_of-queue
 shape_of-queue c = omega (arith, (c.finish.auto.queue), c.loop-i.invariant.long_q)
@@ -38,4 +79,8 @@ pub shape_of-labels : goal.shape_of-labels
 shape_of-labels c = c.loop-i.invariant.long_l
 
 pub returns : goal.returns
-returns c = head-last c.args.text.now (lines_of c.args.starts.now c.args.ends.now) c.args.reading c.args.queue.now c.args.openers.now c.args.labels.now c.requires.sheeted c.loop-i.queue c.loop-i.openers c.loop-i.labels c.loop-i.p c.loop-i.end c.loop-i.i c.loop-i.invariant (omega (arith, c.loop-i-test.false, lines-length c.args.starts.now c.args.ends.now c.requires.starts_len)) c.finish.result c.finish.new.queue (c.finish.ensures c.loop-i.openers)
+returns c = head-last c.args.text.now (lines_of c.args.starts.now c.args.ends.now) c.args.reading c.args.queue.now
+    c.args.openers.now c.args.labels.now c.requires.sheeted c.loop-i.queue c.loop-i.openers c.loop-i.labels
+    c.loop-i.p c.loop-i.end c.loop-i.i c.loop-i.invariant (omega
+    (arith, c.loop-i-test.false, lines-length c.args.starts.now c.args.ends.now c.requires.starts_len))
+    c.finish.result c.finish.new.queue (c.finish.ensures c.loop-i.openers)

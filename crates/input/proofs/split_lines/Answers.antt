@@ -14,7 +14,9 @@ pub loop-i-preserved : goal.loop-i-preserved
 loop-i-preserved c = goes_on c.loop-i.invariant c.loop-i-test.true c.if-b-eq10.false
 
 pub returns-then-from-i : goal.returns-then-from-i
-returns-then-from-i c = let all = last_line c.loop-i.invariant (search rules) c.loop-i-test.false c.if-from-i.true in record { count_value = all.0; lines_value = all.1.0; count_bound = all.1.1 }
+returns-then-from-i c = let all = last_line c.loop-i.invariant (search rules) c.loop-i-test.false
+    c.if-from-i.true in record { count_value = all.0; lines_value = all.1.0; count_bound = all.1.1 }
 
 pub returns-else-from-i : goal.returns-else-from-i
-returns-else-from-i c = let all = no_line c.loop-i.invariant (search rules) c.loop-i-test.false c.if-from-i.false in record { count_value = all.0; lines_value = all.1.0; count_bound = all.1.1 }
+returns-else-from-i c = let all = no_line c.loop-i.invariant (search rules) c.loop-i-test.false c.if-from-i.false in
+    record { count_value = all.0; lines_value = all.1.0; count_bound = all.1.1 }

@@ -7,7 +7,8 @@ use Rattle.labels.proofs.byte.Goals as goal
 pub returns-then-b-eq10 : goal.returns-then-b-eq10
 returns-then-b-eq10 c =
     let a = c.args in
-    byte-newline a.inline a.labels.now a.j _ a.b c.if-b-eq10.true c.newline.ensures c.requires.used_in_bounds c.requires.fits_value
+    byte-newline a.inline a.labels.now a.j _ a.b c.if-b-eq10.true c.newline.ensures c.requires.used_in_bounds
+    c.requires.fits_value
 
 pub returns-then-not-g : goal.returns-then-not-g
 returns-then-not-g c = let a = c.args in

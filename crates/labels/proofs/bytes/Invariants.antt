@@ -10,7 +10,8 @@ use Rattle.labels.proofs.bytes.Given as goal
 
 abbrev pub invariant-loop-i : goal.invariant-loop-i
 invariant-loop-i l = (l.j.fits ≡ true)
-    × Appended l.initial.labels l.initial.j.used (λ y. pieces (separator l.inline) l.initial.j.begun l.initial.j.apart (l.s ++ y))
+    × Appended l.initial.labels l.initial.j.used (λ y. pieces (separator l.inline) l.initial.j.begun
+    l.initial.j.apart (l.s ++ y))
     l.labels l.j.used l.j.fits (λ y. pieces (separator l.inline) l.j.begun l.j.apart (drop l.i l.s ++ y))
 
 abbrev pub decreases-loop-i : goal.decreases-loop-i

@@ -8,7 +8,8 @@ use Rattle.labels.specs.Building.{Appended}
 use Rattle.labels.proofs.copy.Given as goal
 
 abbrev pub invariant-loop-i : goal.invariant-loop-i
-invariant-loop-i l = (l.built.fits ≡ true) × Appended l.initial.labels l.used (λ y. l.s ++ y) l.labels l.built.used l.built.fits (λ y. drop l.i l.s ++ y)
+invariant-loop-i l = (l.built.fits ≡ true) × Appended l.initial.labels l.used (λ y. l.s ++ y) l.labels l.built.used
+    l.built.fits (λ y. drop l.i l.s ++ y)
 
 abbrev pub decreases-loop-i : goal.decreases-loop-i
 decreases-loop-i l = length l.s - l.i

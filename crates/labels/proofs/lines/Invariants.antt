@@ -10,8 +10,10 @@ use Rattle.labels.proofs.lines.Given as goal
 
 abbrev pub invariant-loop-i : goal.invariant-loop-i
 invariant-loop-i l = (l.j.fits ≡ true)
-    × Appended l.initial.labels l.used (λ y. pieces (separator l.inline) false false (stretches l.text l.end (drop l.from (events l.n l.queue))))
-    l.labels l.j.used l.j.fits (λ y. pieces (separator l.inline) l.j.begun l.j.apart (stretches l.text l.at (drop l.i (events l.n l.queue))))
+    × Appended l.initial.labels l.used (λ y. pieces (separator l.inline) false false
+    (stretches l.text l.end (drop l.from (events l.n l.queue))))
+    l.labels l.j.used l.j.fits (λ y. pieces (separator l.inline) l.j.begun l.j.apart
+    (stretches l.text l.at (drop l.i (events l.n l.queue))))
 
 abbrev pub decreases-loop-i : goal.decreases-loop-i
 decreases-loop-i l = l.n - l.i

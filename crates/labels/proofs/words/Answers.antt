@@ -14,9 +14,10 @@ use Rattle.labels.proofs.words.Goals as goal
 
 pub loop-i-init : goal.loop-i-init
 loop-i-init c = (
-      refl,
-      filled_none c.args.labels.now c.args.used (λ y. words_of c.args.text.now (drop c.args.from (events c.args.n c.args.queue.now))) true c.requires.used_in_bounds refl,
-    )
+  refl,
+  filled_none c.args.labels.now c.args.used (λ y. words_of c.args.text.now
+      (drop c.args.from (events c.args.n c.args.queue.now))) true c.requires.used_in_bounds refl,
+)
 
 pub word-built-requires : goal.word-built-requires
 word-built-requires c = omega (arith, c.loop-i.invariant.1.room, c.loop-i.invariant.1.length_kept)
@@ -26,16 +27,18 @@ shape_of-labels-then-not-built c = c.word-built.ensures.length_kept ∙ c.loop-i
 
 pub returns-then-not-built : goal.returns-then-not-built
 returns-then-not-built c = filled-stuck
-    (words-turn c.args.text.now c.args.queue.now c.args.n c.loop-i.i c.loop-i.invariant.1 c.event_at-e.result c.loop-i-test.true c.loop-i.invariant.0 c.event_at-e.ensures
+    (words-turn c.args.text.now c.args.queue.now c.args.n c.loop-i.i c.loop-i.invariant.1 c.event_at-e.result
+    c.loop-i-test.true c.loop-i.invariant.0 c.event_at-e.ensures
     c.word-built.ensures)
     (λ y. []) _ (not-true _ c.if-not-built.true) (not-true _ c.if-not-built.true)
 
 pub loop-i-preserved : goal.loop-i-preserved
 loop-i-preserved c = (
-      not-false _ c.if-not-built.false,
-      words-turn c.args.text.now c.args.queue.now c.args.n c.loop-i.i c.loop-i.invariant.1 c.event_at-e.result c.loop-i-test.true c.loop-i.invariant.0 c.event_at-e.ensures
-          c.word-built.ensures,
-    )
+  not-false _ c.if-not-built.false,
+  words-turn c.args.text.now c.args.queue.now c.args.n c.loop-i.i c.loop-i.invariant.1 c.event_at-e.result
+      c.loop-i-test.true c.loop-i.invariant.0 c.event_at-e.ensures
+      c.word-built.ensures,
+)
 
 pub shape_of-labels : goal.shape_of-labels
 shape_of-labels c = c.loop-i.invariant.1.length_kept

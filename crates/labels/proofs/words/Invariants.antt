@@ -10,7 +10,8 @@ use Rattle.labels.proofs.words.Given as goal
 
 abbrev pub invariant-loop-i : goal.invariant-loop-i
 invariant-loop-i l = (l.built.fits ≡ true)
-    × Appended l.initial.labels l.used (λ y. words_of l.text (drop l.from (events l.n l.queue))) l.labels l.built.used l.built.fits (λ y. words_of l.text (drop l.i (events l.n l.queue)))
+    × Appended l.initial.labels l.used (λ y. words_of l.text (drop l.from (events l.n l.queue))) l.labels
+    l.built.used l.built.fits (λ y. words_of l.text (drop l.i (events l.n l.queue)))
 
 abbrev pub decreases-loop-i : goal.decreases-loop-i
 decreases-loop-i l = l.n - l.i

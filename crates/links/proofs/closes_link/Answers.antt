@@ -20,5 +20,9 @@ pub overflow_add-next : goal.overflow_add-next
 overflow_add-next c = omega (arith, c.requires)
 
 pub returns : goal.returns
-returns c rules os line = link-step rules c.args.text.now c.args.m line c.args.h c.args.t c.args.o c.args.p c.args.queue.now os c.args.labels.now c.requires.event_lt_events
-    c.place_at.result c.place_at.ensures c.label_of-label.result.home c.label_of-label.result.labels c.label_of-label.result.fits c.label_of-label.new.labels c.label_of-label.ensures.same c.label_of-label.ensures.room c.set_kind.new.queue c.set_kind_to.new.queue c.place_at-2.result c.place_at-2.ensures c.set_kind.ensures c.set_kind_to.ensures c.no_str-none.result c.no_str-none.ensures
+returns c rules os line = link-step rules c.args.text.now c.args.m line c.args.h c.args.t c.args.o c.args.p
+    c.args.queue.now os c.args.labels.now c.requires.event_lt_events
+    c.place_at.result c.place_at.ensures c.label_of-label.result.home c.label_of-label.result.labels
+    c.label_of-label.result.fits c.label_of-label.new.labels c.label_of-label.ensures.same
+    c.label_of-label.ensures.room c.set_kind.new.queue c.set_kind_to.new.queue c.place_at-2.result
+    c.place_at-2.ensures c.set_kind.ensures c.set_kind_to.ensures c.no_str-none.result c.no_str-none.ensures

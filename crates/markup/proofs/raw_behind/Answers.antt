@@ -13,7 +13,8 @@ returns-then-n-eq0 c = let none : c.args.n - 1 ≡ c.args.n = omega (arith, c.if
     sym none ∙ raw-less c.args.n c.args.k c.if-k-eq-ENTER_RAW_FORMAT.false c.if-k-eq-EXIT_RAW_FORMAT.true
 
 pub returns-then-k-eq-EXIT_RAW_FORMAT : goal.returns-then-k-eq-EXIT_RAW_FORMAT
-returns-then-k-eq-EXIT_RAW_FORMAT c = raw-less c.args.n c.args.k c.if-k-eq-ENTER_RAW_FORMAT.false c.if-k-eq-EXIT_RAW_FORMAT.true
+returns-then-k-eq-EXIT_RAW_FORMAT c = raw-less c.args.n c.args.k c.if-k-eq-ENTER_RAW_FORMAT.false
+    c.if-k-eq-EXIT_RAW_FORMAT.true
 
 pub returns : goal.returns
 returns c = raw_same c.args.n c.args.k c.if-k-eq-ENTER_RAW_FORMAT.false c.if-k-eq-EXIT_RAW_FORMAT.false

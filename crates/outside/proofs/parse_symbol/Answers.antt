@@ -18,8 +18,19 @@ pub named-requires : goal.named-requires
 named-requires c = let e = sym c.ahead_symbol.ensures ∙ c.in-Some.is in
     let s = drop c.args.h.to c.args.line.now in
     let w = scan-within c.args.line.now c.args.h.to _ (symbol-some s _ e).within c.requires.token_ready.within in
-    record { from_le_to = omega (arith, c.requires.token_ready.long); n_bound = omega (arith, w, c.requires.token_ready.small); room = omega (arith, w, c.requires.token_ready.room, c.requires.token_ready.long) }
+    record {
+      from_le_to = omega (arith, c.requires.token_ready.long);
+      n_bound = omega
+          (arith, w, c.requires.token_ready.small);
+      room = omega (
+        arith,
+        w,
+        c.requires.token_ready.room,
+        c.requires.token_ready.long,
+      );
+    }
 
 pub returns : goal.returns
-returns c x o = colon-some x (viewed c.args.m c.args.line.now) (here c.args.h c.args.p) c.args.p c.args.queue.now o c.named.result c.named.new.queue o
+returns c x o = colon-some x (viewed c.args.m c.args.line.now) (here c.args.h c.args.p) c.args.p c.args.queue.now o
+    c.named.result c.named.new.queue o
     _ (sym c.ahead_symbol.ensures ∙ c.in-Some.is) (c.named.ensures o c.args.line.now)

@@ -10,10 +10,13 @@ pub clear_behind-requires : goal.clear_behind-requires
 clear_behind-requires c = c.requires c.if-fits.true
 
 pub returns-then-fits : goal.returns-then-fits
-returns-then-fits c = concluded-all c.args.fits c.args.n c.args.r c.args.events.now _ _ c.in-At.is c.if-fits.true c.clear_behind.ensures
+returns-then-fits c = concluded-all c.args.fits c.args.n c.args.r c.args.events.now _ _ c.in-At.is c.if-fits.true
+    c.clear_behind.ensures
 
 pub returns-else-fits : goal.returns-else-fits
-returns-else-fits c = concluded-short c.args.fits c.args.n c.args.r c.args.events.now _ _ _ c.in-At.is c.if-fits.false c.refuse.ensures
+returns-else-fits c = concluded-short c.args.fits c.args.n c.args.r c.args.events.now _ _ _ c.in-At.is
+    c.if-fits.false c.refuse.ensures
 
 pub returns-in-Fault : goal.returns-in-Fault
-returns-in-Fault c = concluded-fault c.args.fits c.args.n c.args.r c.args.events.now _ _ _ _ c.in-Fault.is c.refuse-in-Fault.ensures
+returns-in-Fault c = concluded-fault c.args.fits c.args.n c.args.r c.args.events.now _ _ _ _ c.in-Fault.is
+    c.refuse-in-Fault.ensures

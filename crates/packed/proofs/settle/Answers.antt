@@ -13,12 +13,15 @@ clear_bytes_behind-requires c = subst (λ (q : Put). Within q (length c.args.out
 
 pub returns-in-To : goal.returns-in-To
 unfolding wrote_as Within
-returns-in-To c = (λ i. call (c.acceptance.ensures i) (c.clear_bytes_behind.ensures i)) ∙ ap (λ (q : Put). wrote_as q c.args.out.now) (sym c.in-To.is)
+returns-in-To c = (λ i. call (c.acceptance.ensures i) (c.clear_bytes_behind.ensures i)) ∙ ap
+    (λ (q : Put). wrote_as q c.args.out.now) (sym c.in-To.is)
 
 pub returns-in-Flaw : goal.returns-in-Flaw
 unfolding wrote_as Within
-returns-in-Flaw c = (λ i. call (c.refusal.ensures i) (c.clear_bytes.ensures i)) ∙ ap (λ (q : Put). wrote_as q c.args.out.now) (sym c.in-Flaw.is)
+returns-in-Flaw c = (λ i. call (c.refusal.ensures i) (c.clear_bytes.ensures i)) ∙ ap
+    (λ (q : Put). wrote_as q c.args.out.now) (sym c.in-Flaw.is)
 
 pub returns-in-Full : goal.returns-in-Full
 unfolding wrote_as Within
-returns-in-Full c = (λ i. call (c.refusal-in-Full.ensures i) (c.clear_bytes-in-Full.ensures i)) ∙ ap (λ (q : Put). wrote_as q c.args.out.now) (sym c.in-Full.is)
+returns-in-Full c = (λ i. call (c.refusal-in-Full.ensures i) (c.clear_bytes-in-Full.ensures i)) ∙ ap
+    (λ (q : Put). wrote_as q c.args.out.now) (sym c.in-Full.is)

@@ -8,7 +8,8 @@ use Rattle.markup.specs.Markup.{escaped}
 use Rattle.render.proofs.put_part.Given as goal
 
 abbrev pub invariant-loop-i : goal.invariant-loop-i
-invariant-loop-i l = (l.end ≡ min l.to (length l.text)) × Left l.initial.out l.at (escaped (part l.text l.from l.to)) l.out l.n (escaped (part l.text l.i l.to))
+invariant-loop-i l = (l.end ≡ min l.to (length l.text)) × Left l.initial.out l.at
+    (escaped (part l.text l.from l.to)) l.out l.n (escaped (part l.text l.i l.to))
 
 abbrev pub decreases-loop-i : goal.decreases-loop-i
 decreases-loop-i l = l.end - l.i

@@ -9,7 +9,8 @@ use Rattle.markup.specs.Markup.{escaped}
 use Rattle.render.proofs.put_plain.Given as goal
 
 abbrev pub invariant-loop-k : goal.invariant-loop-k
-invariant-loop-k l = (l.most ≡ min (l.end - l.from) (length l.initial.out - l.at)) × (l.k ≤ l.most) × Wrote l.initial.out l.at (escaped (part l.text l.from (l.from + l.k))) (To (l.at + l.k)) l.out
+invariant-loop-k l = (l.most ≡ min (l.end - l.from) (length l.initial.out - l.at)) × (l.k ≤ l.most) × Wrote
+    l.initial.out l.at (escaped (part l.text l.from (l.from + l.k))) (To (l.at + l.k)) l.out
 
 abbrev pub decreases-loop-k : goal.decreases-loop-k
 decreases-loop-k l = l.most - l.k

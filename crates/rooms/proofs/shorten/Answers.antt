@@ -12,4 +12,5 @@ pub returns : goal.returns
 returns c n =
     let a = c.args in
     rw c.store.ensures
-    (replaced a.queue.now a.i _ c.requires.queue_numbers_in_bounds (shorter a.bytes) (ap (λ (x : Event). shorter a.bytes x) c.event_at-e.ensures) n)
+    (replaced a.queue.now a.i _ c.requires.queue_numbers_in_bounds (shorter a.bytes)
+    (ap (λ (x : Event). shorter a.bytes x) c.event_at-e.ensures) n)

@@ -10,4 +10,5 @@ pub returns-then-from-src : goal.returns-then-from-src
 returns-then-from-src c = part-from c.args.src.now c.args.from
 
 pub returns : goal.returns
-returns c = part-from c.args.src.now (length c.args.src.now) ∙ drop-length c.args.src.now ∙ sym (drop_of_length-le c.args.src.now {i = c.args.from} (omega arith))
+returns c = part-from c.args.src.now (length c.args.src.now) ∙ drop-length c.args.src.now ∙ sym
+    (drop_of_length-le c.args.src.now {i = c.args.from} (omega arith))

@@ -14,8 +14,16 @@ pub returns-then-s-n : goal.returns-then-s-n
 returns-then-s-n c = autolink-end c.args.s.now _ c.eat_while-n.ensures c.if-s-n.true
 
 pub overflow_add-n : goal.overflow_add-n
-overflow_add-n c = let w = run-within (in_set Address) (take (length c.args.s.now - c.eat_while-n.result) (drop c.eat_while-n.result c.args.s.now)) in
-    omega (arith, c.eat_while-more.ensures, w, ap length (part-from c.args.s.now c.eat_while-n.result), length-drop c.eat_while-n.result c.args.s.now)
+overflow_add-n c = let w = run-within (in_set Address) (take (length c.args.s.now - c.eat_while-n.result)
+    (drop c.eat_while-n.result c.args.s.now)) in
+    omega (
+      arith,
+      c.eat_while-more.ensures,
+      w,
+      ap length (part-from c.args.s.now c.eat_while-n.result),
+      length-drop
+          c.eat_while-n.result c.args.s.now,
+    )
 
 pub returns-then-b : goal.returns-then-b
 returns-then-b c = c.closed.ensures

@@ -29,4 +29,5 @@ unfolding among
 returns-in-15 c = sym (ap (among marks) (sym c.closed_by.ensures ∙ c.in-15.is))
 
 pub returns-in_default : goal.returns-in_default
-returns-in_default c = sym (ap (among marks) (sym c.closed_by.ensures) ∙ one_way c.closed_by.result c.in_default.in_default-own.rest)
+returns-in_default c = sym (ap (among marks) (sym c.closed_by.ensures) ∙ one_way c.closed_by.result
+    c.in_default.in_default-own.rest)

@@ -14,40 +14,52 @@ returns-then-k-eq-STRONG c = wrote_at (λ (k : ℕ). find k closing) c.args.k st
 
 pub returns-then-k-eq-EMPHASIS : goal.returns-then-k-eq-EMPHASIS
 unfolding find closing bytes
-returns-then-k-eq-EMPHASIS c = wrote_at (λ (k : ℕ). find k closing) c.args.k emphasis c.if-k-eq-EMPHASIS.true c.put-then-k-eq-EMPHASIS.ensures
+returns-then-k-eq-EMPHASIS c = wrote_at (λ (k : ℕ). find k closing) c.args.k emphasis c.if-k-eq-EMPHASIS.true
+    c.put-then-k-eq-EMPHASIS.ensures
 
 pub returns-then-k-eq-VERBATIM : goal.returns-then-k-eq-VERBATIM
 unfolding find closing bytes
-returns-then-k-eq-VERBATIM c = wrote_at (λ (k : ℕ). find k closing) c.args.k verbatim c.if-k-eq-VERBATIM.true c.put-then-k-eq-VERBATIM.ensures
+returns-then-k-eq-VERBATIM c = wrote_at (λ (k : ℕ). find k closing) c.args.k verbatim c.if-k-eq-VERBATIM.true
+    c.put-then-k-eq-VERBATIM.ensures
 
 pub returns-then-k-eq-SUBSCRIPT : goal.returns-then-k-eq-SUBSCRIPT
 unfolding find closing bytes
-returns-then-k-eq-SUBSCRIPT c = wrote_at (λ (k : ℕ). find k closing) c.args.k subscript c.if-k-eq-SUBSCRIPT.true c.put-then-k-eq-SUBSCRIPT.ensures
+returns-then-k-eq-SUBSCRIPT c = wrote_at (λ (k : ℕ). find k closing) c.args.k subscript c.if-k-eq-SUBSCRIPT.true
+    c.put-then-k-eq-SUBSCRIPT.ensures
 
 pub returns-then-k-eq-SUPERSCRIPT : goal.returns-then-k-eq-SUPERSCRIPT
 unfolding find closing bytes
-returns-then-k-eq-SUPERSCRIPT c = wrote_at (λ (k : ℕ). find k closing) c.args.k superscript c.if-k-eq-SUPERSCRIPT.true c.put-then-k-eq-SUPERSCRIPT.ensures
+returns-then-k-eq-SUPERSCRIPT c = wrote_at (λ (k : ℕ). find k closing) c.args.k superscript
+    c.if-k-eq-SUPERSCRIPT.true c.put-then-k-eq-SUPERSCRIPT.ensures
 
 pub returns-then-k-eq-INSERT : goal.returns-then-k-eq-INSERT
 unfolding find closing bytes
-returns-then-k-eq-INSERT c = wrote_at (λ (k : ℕ). find k closing) c.args.k insert c.if-k-eq-INSERT.true c.put-then-k-eq-INSERT.ensures
+returns-then-k-eq-INSERT c = wrote_at (λ (k : ℕ). find k closing) c.args.k insert c.if-k-eq-INSERT.true
+    c.put-then-k-eq-INSERT.ensures
 
 pub returns-then-k-eq-DELETE : goal.returns-then-k-eq-DELETE
 unfolding find closing bytes
-returns-then-k-eq-DELETE c = wrote_at (λ (k : ℕ). find k closing) c.args.k delete c.if-k-eq-DELETE.true c.put-then-k-eq-DELETE.ensures
+returns-then-k-eq-DELETE c = wrote_at (λ (k : ℕ). find k closing) c.args.k delete c.if-k-eq-DELETE.true
+    c.put-then-k-eq-DELETE.ensures
 
 pub returns-then-k-eq-MARK : goal.returns-then-k-eq-MARK
 unfolding find closing bytes
-returns-then-k-eq-MARK c = wrote_at (λ (k : ℕ). find k closing) c.args.k mark c.if-k-eq-MARK.true c.put-then-k-eq-MARK.ensures
+returns-then-k-eq-MARK c = wrote_at (λ (k : ℕ). find k closing) c.args.k mark c.if-k-eq-MARK.true
+    c.put-then-k-eq-MARK.ensures
 
 pub returns-then-k-eq-INLINE_MATH : goal.returns-then-k-eq-INLINE_MATH
 unfolding find closing bytes
-returns-then-k-eq-INLINE_MATH c = wrote_at (λ (k : ℕ). find k closing) c.args.k inline_math c.if-k-eq-INLINE_MATH.true c.put-then-k-eq-INLINE_MATH.ensures
+returns-then-k-eq-INLINE_MATH c = wrote_at (λ (k : ℕ). find k closing) c.args.k inline_math
+    c.if-k-eq-INLINE_MATH.true c.put-then-k-eq-INLINE_MATH.ensures
 
 pub returns-then-k-eq-DISPLAY_MATH : goal.returns-then-k-eq-DISPLAY_MATH
 unfolding find closing bytes
-returns-then-k-eq-DISPLAY_MATH c = wrote_at (λ (k : ℕ). find k closing) c.args.k display_math c.if-k-eq-DISPLAY_MATH.true c.put-then-k-eq-DISPLAY_MATH.ensures
+returns-then-k-eq-DISPLAY_MATH c = wrote_at (λ (k : ℕ). find k closing) c.args.k display_math
+    c.if-k-eq-DISPLAY_MATH.true c.put-then-k-eq-DISPLAY_MATH.ensures
 
 pub returns : goal.returns
-returns c = wrote_as [] (find c.args.k closing) (closing-none c.args.k c.if-k-eq-STRONG.false c.if-k-eq-EMPHASIS.false c.if-k-eq-VERBATIM.false c.if-k-eq-SUBSCRIPT.false c.if-k-eq-SUPERSCRIPT.false c.if-k-eq-INSERT.false c.if-k-eq-DELETE.false c.if-k-eq-MARK.false c.if-k-eq-INLINE_MATH.false c.if-k-eq-DISPLAY_MATH.false)
+returns c = wrote_as [] (find c.args.k closing) (closing-none c.args.k c.if-k-eq-STRONG.false
+    c.if-k-eq-EMPHASIS.false c.if-k-eq-VERBATIM.false c.if-k-eq-SUBSCRIPT.false c.if-k-eq-SUPERSCRIPT.false
+    c.if-k-eq-INSERT.false c.if-k-eq-DELETE.false c.if-k-eq-MARK.false c.if-k-eq-INLINE_MATH.false
+    c.if-k-eq-DISPLAY_MATH.false)
     (wrote_none c.args.out.now c.args.at c.requires)

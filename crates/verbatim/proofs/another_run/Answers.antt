@@ -6,4 +6,5 @@ pub returns-in_default : goal.returns-in_default
 returns-in_default c = another-none c.args.w c.args.next c.in_default.is
 
 pub returns : goal.returns
-returns c = another-some c.args.w c.args.next c.in-Some.t c.in-Some.is c.role_of.result c.role_of.ensures c.is_run.result c.is_run.ensures
+returns c = another-some c.args.w c.args.next c.in-Some.t c.in-Some.is c.role_of.result c.role_of.ensures
+    c.is_run.result c.is_run.ensures

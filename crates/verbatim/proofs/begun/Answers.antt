@@ -7,4 +7,6 @@ pub returns-in-No : goal.returns-in-No
 returns-in-No c = search (rules, begun-out)
 
 pub returns-in-Verbatim : goal.returns-in-Verbatim
-returns-in-Verbatim c = begun-in c.args.reading c.args.p c.in-Verbatim.v c.in-Verbatim.is c.later.result c.later.ensures c.new-in-Verbatim.result c.new-in-Verbatim.ensures c.moved-out.result c.moved-out.ensures c.inside.result c.inside.ensures
+returns-in-Verbatim c = begun-in c.args.reading c.args.p c.in-Verbatim.v c.in-Verbatim.is c.later.result
+    c.later.ensures c.new-in-Verbatim.result c.new-in-Verbatim.ensures c.moved-out.result c.moved-out.ensures
+    c.inside.result c.inside.ensures

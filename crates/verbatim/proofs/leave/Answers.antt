@@ -10,8 +10,14 @@ pub overflow_sub-n : goal.overflow_sub-n
 overflow_sub-n c = dollars-some c.args.dollars c.args.n c.args.queue.now c.requires.dollars c.if-dollars-eq0.false
 
 pub shorten-requires : goal.shorten-requires
-shorten-requires c = let few = dollars-some c.args.dollars c.args.n c.args.queue.now c.requires.dollars c.if-dollars-eq0.false in
-    record { queue_numbers_in_bounds = omega (arith, few, c.requires.queue_numbers_in_bounds); bytes_bound = dollars-within c.args.dollars c.args.n c.args.queue.now c.requires.dollars c.if-dollars-eq0.false }
+shorten-requires c = let few = dollars-some c.args.dollars c.args.n c.args.queue.now c.requires.dollars
+    c.if-dollars-eq0.false in
+    record {
+      queue_numbers_in_bounds = omega (arith, few, c.requires.queue_numbers_in_bounds);
+      bytes_bound = dollars-within c.args.dollars c.args.n c.args.queue.now c.requires.dollars
+          c.if-dollars-eq0.false;
+    }
 
 pub returns : goal.returns
-returns c = left-some c.args.dollars c.args.n c.args.queue.now c.requires.dollars c.if-dollars-eq0.false c.shorten.new.queue c.shorten.ensures
+returns c = left-some c.args.dollars c.args.n c.args.queue.now c.requires.dollars c.if-dollars-eq0.false
+    c.shorten.new.queue c.shorten.ensures

@@ -9,4 +9,5 @@ pub returns-in-1 : goal.returns-in-1
 returns-in-1 c = opened-inline c.args.dollars c.in-1.is
 
 pub returns-in_default : goal.returns-in_default
-returns-in_default c = opened-display c.args.dollars c.in_default.in_default-own.rest.0.1 c.in_default.in_default-own.rest.1
+returns-in_default c = opened-display c.args.dollars c.in_default.in_default-own.rest.0.1
+    c.in_default.in_default-own.rest.1

@@ -13,7 +13,13 @@ returns-then-c-eq125 c = rw (ne_eqb _ 37 c.if-c-eq37.false, eq-eqb _ 125 c.if-c-
 
 pub returns-then-c-eq10 : goal.returns-then-c-eq10
 unfolding by
-returns-then-c-eq10 c = rw (ne_eqb _ 37 c.if-c-eq37.false, ne_eqb _ 125 c.if-c-eq125.false, eq-eqb _ 10 c.if-c-eq10.true, by)
+returns-then-c-eq10 c = rw (
+  ne_eqb _ 37 c.if-c-eq37.false,
+  ne_eqb _ 125 c.if-c-eq125.false,
+  eq-eqb _ 10
+      c.if-c-eq10.true,
+  by,
+)
 
 pub returns : goal.returns
 unfolding by

@@ -13,7 +13,13 @@ returns-then-c-eq10 c = rw (ne_eqb _ 34 c.if-c-eq34.false, eq-eqb _ 10 c.if-c-eq
 
 pub returns-then-c-eq92 : goal.returns-then-c-eq92
 unfolding by
-returns-then-c-eq92 c = rw (ne_eqb _ 34 c.if-c-eq34.false, ne_eqb _ 10 c.if-c-eq10.false, eq-eqb _ 92 c.if-c-eq92.true, by)
+returns-then-c-eq92 c = rw (
+  ne_eqb _ 34 c.if-c-eq34.false,
+  ne_eqb _ 10 c.if-c-eq10.false,
+  eq-eqb _ 92
+      c.if-c-eq92.true,
+  by,
+)
 
 pub returns : goal.returns
 unfolding by

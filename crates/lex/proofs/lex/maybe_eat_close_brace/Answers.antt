@@ -10,4 +10,7 @@ returns-then-peek_byte_n-eq125 c = rw (eq-eqb _ _ (sym c.peek_byte_n.ensures ∙
 
 pub returns-else-peek_byte_n-eq125 : goal.returns-else-peek_byte_n-eq125
 unfolding begun_by
-returns-else-peek_byte_n-eq125 c = rw (ne_eqb _ _ (λ e. c.if-peek_byte_n-eq125.false (c.peek_byte_n.ensures ∙ e)), begun_by)
+returns-else-peek_byte_n-eq125 c = rw (
+  ne_eqb _ _ (λ e. c.if-peek_byte_n-eq125.false (c.peek_byte_n.ensures ∙ e)),
+  begun_by,
+)

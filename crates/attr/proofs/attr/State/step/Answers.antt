@@ -16,7 +16,8 @@ returns-in-Whitespace c = rw c.in-Whitespace.is c.parts.ensures
 pub returns-in-CommentFirst : goal.returns-in-CommentFirst
 unfolding step
 returns-in-CommentFirst c = c.comment.ensures
-    ∙ listed (λ s. comment c.args.c ≡ step s c.args.c) (2 ∷ 3 ∷ 4 ∷ []) c.args.self (refl, (refl, (refl, tt))) c.in-CommentFirst.in-CommentFirst-own.keys3
+    ∙ listed (λ s. comment c.args.c ≡ step s c.args.c) (2 ∷ 3 ∷ 4 ∷ []) c.args.self (refl, (refl, (refl, tt)))
+    c.in-CommentFirst.in-CommentFirst-own.keys3
 
 pub returns-in-ClassFirst : goal.returns-in-ClassFirst
 unfolding step
@@ -29,7 +30,8 @@ returns-in-IdentifierFirst c = rw c.in-IdentifierFirst.is c.first-in-IdentifierF
 pub returns-in-Class : goal.returns-in-Class
 unfolding step
 returns-in-Class c = c.rest.ensures
-    ∙ listed (λ s. rest s c.args.c ≡ step s c.args.c) (6 ∷ 8 ∷ 11 ∷ []) c.args.self (refl, (refl, (refl, tt))) c.in-Class.in-Class-own.keys6
+    ∙ listed (λ s. rest s c.args.c ≡ step s c.args.c) (6 ∷ 8 ∷ 11 ∷ []) c.args.self (refl, (refl, (refl, tt)))
+    c.in-Class.in-Class-own.keys6
 
 pub returns-in-Key : goal.returns-in-Key
 unfolding step
@@ -50,8 +52,10 @@ returns-in-ValueEscape c = rw c.in-ValueEscape.is c.escaped.ensures
 pub returns-in-ValueNewline : goal.returns-in-ValueNewline
 unfolding step
 returns-in-ValueNewline c = c.continued.ensures
-    ∙ listed (λ s. continued c.args.c ≡ step s c.args.c) (14 ∷ 15 ∷ []) c.args.self (refl, (refl, tt)) c.in-ValueNewline.in-ValueNewline-own.keys11
+    ∙ listed (λ s. continued c.args.c ≡ step s c.args.c) (14 ∷ 15 ∷ []) c.args.self (refl, (refl, tt))
+    c.in-ValueNewline.in-ValueNewline-own.keys11
 
 pub returns-in-Invalid : goal.returns-in-Invalid
 unfolding step
-returns-in-Invalid c = listed (λ s. s ≡ step s c.args.c) (17 ∷ 16 ∷ []) c.args.self (refl, (refl, tt)) c.in-Invalid.in-Invalid-own.keys12
+returns-in-Invalid c = listed (λ s. s ≡ step s c.args.c) (17 ∷ 16 ∷ []) c.args.self (refl, (refl, tt))
+    c.in-Invalid.in-Invalid-own.keys12

@@ -16,5 +16,6 @@ pub returns-in_default : goal.returns-in_default
 unfolding is_done all
 returns-in_default c = sym
     (not-true _
-    (listed-true (λ s. not (is_done s)) (0 ∷ 1 ∷ 2 ∷ 3 ∷ 4 ∷ 5 ∷ 6 ∷ 7 ∷ 8 ∷ 9 ∷ 10 ∷ 11 ∷ 12 ∷ 13 ∷ 14 ∷ 15 ∷ 17 ∷ []) c.args.self.state refl
+    (listed-true (λ s. not (is_done s)) (0 ∷ 1 ∷ 2 ∷ 3 ∷ 4 ∷ 5 ∷ 6 ∷ 7 ∷ 8 ∷ 9 ∷ 10 ∷ 11 ∷ 12 ∷ 13 ∷ 14 ∷ 15 ∷ 17
+    ∷ []) c.args.self.state refl
     (opened c.in_default.in_default-own.keys2)))

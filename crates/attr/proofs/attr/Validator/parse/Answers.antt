@@ -22,4 +22,5 @@ loop-n-preserved c = let a = c.args in
 pub returns : goal.returns
 returns c = let a = c.args in
     let l = c.loop-n in
-    ap (λ (s : State). record { state = s }) (going-all a.input.now a.self.state l.n l.state l.invariant c.loop-n-test.false)
+    ap (λ (s : State). record { state = s }) (going-all a.input.now a.self.state l.n l.state l.invariant
+    c.loop-n-test.false)
