@@ -1,5 +1,7 @@
 #![tactic(auto)]
 // `./fragment`: the fragment of a sheet of standard input. A sheet has at most 1,000 bytes.
-fn main() {
-    page::page_input();
+use std::io;
+
+fn main(rt: HostRuntime) -> io::Result<()> {
+    page::page_input(&mut rt.reader(), &mut io::writer(&rt), &mut rt.stderr())
 }

@@ -1,9 +1,12 @@
 #![tactic(auto)]
-// A sheet of standard input: its lines, each with its newline.
-ghost use Rattle.std.specs.Prelude.{◌≡◌, ◌≤◌, length, take};
+// What a program reads from its input, and the lines of a sheet, each with its newline.
+ghost use Rattle.std.specs.Prelude.{◌≡◌, ◌≤◌, length, take, IfOk};
+ghost use Rattle.std.specs.Io.KnownBytes.{Consumes};
 ghost use Rattle.input.specs.Lines.{text_lines};
 
 use reading::Line;
+use std::io;
+use std::io::Read;
 
 // A program's input in bytes.
 pub const BYTES: usize = 1000;
@@ -46,4 +49,21 @@ pub fn split_lines(text: &[u8]) -> Split
         n += 1;
     }
     Split { lines, count: n }
+}
+
+// Bytes from a reader, until the room is full or nothing is left, and how many there are.
+pub fn read_full<R: Read>(from: &mut R, room: &mut [u8]) -> io::Result<usize>
+    ensures bound { IfOk result (λ n. n ≤ length room.new) }
+    ensures bytes { IfOk result (λ n. Consumes (R.remaining from.old) (R.remaining from.new)
+        (take n room.new)) }
+{
+    let mut done = 0;
+    while done < room.len() {
+        let n = from.read(&mut room[done..])?;
+        if n == 0 {
+            break;
+        }
+        done += n;
+    }
+    Ok(done)
 }

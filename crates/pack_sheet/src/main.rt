@@ -1,5 +1,7 @@
 #![tactic(auto)]
 // `./pack`: the packed list of a sheet of standard input. A sheet has at most 1,000 bytes.
-fn main() {
-    send::send_input();
+use std::io;
+
+fn main(rt: HostRuntime) -> io::Result<()> {
+    send::send_input(&mut rt.reader(), &mut io::writer(&rt), &mut rt.stderr())
 }

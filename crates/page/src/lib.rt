@@ -1,5 +1,6 @@
 #![tactic(auto)]
-// The program behind `./fragment`: a sheet of standard input is read, and its fragment is written to standard output.
+// The program behind `./fragment`: a sheet of its input is read, and its fragment is written, or
+// else why there is none.
 ghost use Rattle.std.specs.Prelude.{◌≡◌, ◌≤◌, length, take};
 ghost use Rattle.outcome.specs.Outcomes.{rooms_of};
 ghost use Rattle.verdict.specs.Fragments.{fragmented_of, fragmented};
@@ -7,6 +8,8 @@ ghost use Rattle.verdict.specs.Fragments.{fragmented_of, fragmented};
 use input::BYTES;
 use output::OUTPUT_ROOM;
 use reading::{EVENT_NUMBERS, Line, OPENER_NUMBERS, QUEUE_NUMBERS};
+use std::io;
+use std::io::{Read, Write};
 use verdict::{FragmentAnswer, LINKED};
 
 // The program's rooms. So much output room always suffices.
@@ -21,23 +24,21 @@ const LABEL_ROOM: usize = 65536;
 const FRAGMENT_ROOM: usize = 5 * BYTES + 29 * (BYTES + 1);
 
 // What a refusal says, in plain words.
-fn say(code: u32) {
+fn say<W: Write>(to: &mut W, code: u32) -> io::Result<()> {
     if code == LINKED {
-        io::write_all(
-            2,
-            b"a link, an image, an autolink or a footnote reference begins there, and a fragment has none of them\n",
-        );
+        to.write_all(b"a link, an image, an autolink or a footnote reference begins there, ")?;
+        to.write_all(b"and a fragment has none of them\n")
     } else if code == OUTPUT_ROOM {
-        io::write_all(2, b"the fragment is longer than the output room\n");
+        to.write_all(b"the fragment is longer than the output room\n")
     } else {
-        printing::say_reader(code);
+        printing::say_reader(to, code)
     }
 }
 
 // Code and place, and what they mean.
-fn say_refused(code: u32, place: u32) {
-    printing::say_place(code, place as u64);
-    say(code);
+fn say_refused<W: Write>(to: &mut W, code: u32, place: u32) -> io::Result<()> {
+    printing::say_place(to, code, place as u64)?;
+    say(to, code)
 }
 
 // The fragment of the first n lines of a room, in reading 0.
@@ -59,7 +60,13 @@ fn write_lines(
 }
 
 // The fragment of the lines of a text, in the rooms of the program.
-fn page_lines(text: &[u8], lines: [Line; BYTES], n: usize)
+fn page_lines<W: Write, E: Write>(
+    to: &mut W,
+    errors: &mut E,
+    text: &[u8],
+    lines: [Line; BYTES],
+    n: usize,
+) -> io::Result<()>
     requires { n ≤ 1000 }
 {
     let mut events = [0u32; EVENT_ROOM];
@@ -78,28 +85,32 @@ fn page_lines(text: &[u8], lines: [Line; BYTES], n: usize)
         &mut out,
     );
     if answer.code != 0 {
-        say_refused(answer.code, answer.place);
+        say_refused(errors, answer.code, answer.place)
     } else {
-        printing::write_bytes(&out, answer.length as usize);
+        printing::write_bytes(to, &out, answer.length as usize)
     }
 }
 
-fn page(text: &[u8])
+fn page<W: Write, E: Write>(to: &mut W, errors: &mut E, text: &[u8]) -> io::Result<()>
     requires { length text.now ≤ 1000 }
 {
     let split = input::split_lines(text);
     let lines = split.lines;
     let n = split.count;
-    page_lines(text, lines, n);
+    page_lines(to, errors, text, lines, n)
 }
 
-// At most 1,000 bytes of standard input are a sheet.
-pub fn page_input() {
+// At most 1,000 bytes of input are a sheet.
+pub fn page_input<R: Read, W: Write, E: Write>(
+    from: &mut R,
+    to: &mut W,
+    errors: &mut E,
+) -> io::Result<()> {
     let mut text = [0u8; BYTES + 1];
-    let n = io::read_full(0, &mut text);
+    let n = input::read_full(from, &mut text)?;
     if BYTES < n {
-        io::write_all(2, b"input over 1000 bytes\n");
+        errors.write_all(b"input over 1000 bytes\n")
     } else {
-        page(&text[..n]);
+        page(to, errors, &text[..n])
     }
 }

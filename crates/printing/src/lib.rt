@@ -1,20 +1,21 @@
 #![tactic(auto)]
-// What the programs print: bytes, numbers and events, a line each, and why a sheet is refused, in plain words.
+// What the programs print: bytes, numbers and events, a line each, and why a sheet is refused, in
+// plain words.
 ghost use Rattle.std.specs.Prelude.{◌≡◌, min};
 
 use reading::{EVENT_NUMBERS, code};
+use std::io;
+use std::io::Write;
 
 // Numbers on one line.
-pub fn write_line(numbers: &[u32]) {
-    let mut i = 0;
-    while i < numbers.len() {
+pub fn write_line<W: Write>(to: &mut W, numbers: &[u32]) -> io::Result<()> {
+    for (i, number) in numbers.iter().enumerate() {
         if 0 < i {
-            io::write_all(1, b" ");
+            to.write_all(b" ")?;
         }
-        io::print_decimal(1, numbers[i] as u64);
-        i += 1;
+        write!(to, "{number}")?;
     }
-    io::write_all(1, b"\n");
+    to.write_all(b"\n")
 }
 
 // How many of the counted ones a room of so many holds.
@@ -25,45 +26,31 @@ fn held(count: usize, room: usize) -> usize
 }
 
 // Bytes from the front of their room.
-pub fn write_bytes(bytes: &[u8], count: usize) {
+pub fn write_bytes<W: Write>(to: &mut W, bytes: &[u8], count: usize) -> io::Result<()> {
     let n = held(count, bytes.len());
-    io::write_all(1, &bytes[..n]);
+    to.write_all(&bytes[..n])
 }
 
 // Events from the front of their room.
-pub fn write_events(events: &[u32], count: usize) {
-    let n = held(count, events.len() / EVENT_NUMBERS);
-    let mut i = 0;
-    while i < n {
-        let at = i * EVENT_NUMBERS;
-        let next = at + EVENT_NUMBERS;
-        write_line(&events[at..next]);
-        i += 1;
+pub fn write_events<W: Write>(to: &mut W, events: &[u32], count: usize) -> io::Result<()> {
+    for event in events.chunks_exact(EVENT_NUMBERS).take(count) {
+        write_line(to, event)?;
     }
+    Ok(())
 }
 
-// Code and place of a refusal, on standard error.
-pub fn say_place(code: u32, place: u64) {
-    io::write_all(2, b"refused ");
-    io::print_decimal(2, code as u64);
-    io::write_all(2, b" at ");
-    io::print_decimal(2, place);
-    io::write_all(2, b": ");
+// Code and place of a refusal, where it says what it means.
+pub fn say_place<W: Write>(to: &mut W, code: u32, place: u64) -> io::Result<()> {
+    write!(to, "refused {code} at {place}: ")
 }
 
 // What a refusal of the reader means.
-pub fn say_reader(code: u32) {
+pub fn say_reader<W: Write>(to: &mut W, code: u32) -> io::Result<()> {
     if code == code::BRACE {
-        io::write_all(2, b"an attribute block stands there outside verbatim\n");
+        to.write_all(b"an attribute block stands there outside verbatim\n")
     } else if code == code::LABEL_ROOM {
-        io::write_all(
-            2,
-            b"the labels of its links are longer than the label room\n",
-        );
+        to.write_all(b"the labels of its links are longer than the label room\n")
     } else {
-        io::write_all(
-            2,
-            b"its lines or the program's rooms are not those of a sheet\n",
-        );
+        to.write_all(b"its lines or the program's rooms are not those of a sheet\n")
     }
 }

@@ -2,6 +2,8 @@
 // Replays the stored answers of the Rust, case by case, and prints how many cases there were and how many differ.
 // A case begins with its sort: 0 the tokens of a line, 1 to 4 a scan ahead, 5 a run of hyphens, 6 a run of periods.
 use exports::{Counts, CursorNumbers, Scanned};
+use std::io;
+use std::io::{Read, Write};
 use stored::{Case, Report, fill, number_at};
 
 // Bit i of a pattern, which repeats.
@@ -162,8 +164,13 @@ fn replay(sample: &[u8]) -> Report {
     }
 }
 
-fn main() {
+// The report of what an input holds, of which no more than the room is read.
+fn replay_input<R: Read, W: Write>(from: &mut R, to: &mut W, room: &mut [u8]) -> io::Result<()> {
+    let n = input::read_full(from, room)?;
+    stored::write_report(to, replay(&room[..n]))
+}
+
+fn main(rt: HostRuntime) -> io::Result<()> {
     let mut sample = [0u8; 524288];
-    let n = io::read_full(0, &mut sample);
-    stored::write_report(replay(&sample[..n]));
+    replay_input(&mut rt.reader(), &mut io::writer(&rt), &mut sample)
 }

@@ -7,6 +7,8 @@ ghost use Rattle.std.specs.Prelude.{◌≤◌, ◌<◌, min, length, ◌≡◌};
 ghost use Rattle.replay_sheets.specs.Rooms.{all_are, same_as, holds};
 
 use reading::{Answer, EVENT_NUMBERS, code};
+use std::io;
+use std::io::{Read, Write};
 use stored::{Case, Report, fill, fill_places, number_at};
 
 // What stands in the rooms before the call.
@@ -374,8 +376,13 @@ fn replay(sample: &[u8]) -> Report {
     }
 }
 
-fn main() {
+// The report of what an input holds, of which no more than the room is read.
+fn replay_input<R: Read, W: Write>(from: &mut R, to: &mut W, room: &mut [u8]) -> io::Result<()> {
+    let n = input::read_full(from, room)?;
+    stored::write_report(to, replay(&room[..n]))
+}
+
+fn main(rt: HostRuntime) -> io::Result<()> {
     let mut sample = [0u8; 524288];
-    let n = io::read_full(0, &mut sample);
-    stored::write_report(replay(&sample[..n]));
+    replay_input(&mut rt.reader(), &mut io::writer(&rt), &mut sample)
 }

@@ -1,5 +1,6 @@
 #![tactic(auto)]
-// The program behind `./pack`: a sheet of standard input is read, and the list of its events is written to standard output, packed.
+// The program behind `./pack`: a sheet of its input is read, and the list of its events is written,
+// packed, or else why there is none.
 ghost use Rattle.std.specs.Prelude.{◌≡◌, ◌/◌, ◌≤◌, length, take};
 ghost use Rattle.reading.specs.Events.{event_numbers};
 ghost use Rattle.reading.specs.Questions.{outcome};
@@ -11,11 +12,14 @@ use input::BYTES;
 use packed::PackedAnswer;
 use reading::{EVENT_NUMBERS, Line};
 use show::{EVENT_ROOM, LABEL_ROOM, OPENER_ROOM, QUEUE_ROOM};
+use std::io;
+use std::io::{Read, Write};
 
 // So many bytes hold any list that the event room holds.
 const LIST_ROOM: usize = 27 * (BYTES + 1) + 5;
 
-// The packed list of the first n lines of a room, in reading 0. It is refused as the reader does, and for nothing else.
+// The packed list of the first n lines of a room, in reading 0. It is refused as the reader does,
+// and for nothing else.
 fn pack_lines(
     text: &[u8],
     lines: [Line; BYTES],
@@ -45,7 +49,13 @@ fn pack_lines(
 }
 
 // The packed list of the lines of a text, in the rooms of the program.
-fn send_lines(text: &[u8], lines: [Line; BYTES], n: usize)
+fn send_lines<W: Write, E: Write>(
+    to: &mut W,
+    errors: &mut E,
+    text: &[u8],
+    lines: [Line; BYTES],
+    n: usize,
+) -> io::Result<()>
     requires { n ≤ 1000 }
 {
     let mut events = [0u32; EVENT_ROOM];
@@ -64,29 +74,33 @@ fn send_lines(text: &[u8], lines: [Line; BYTES], n: usize)
         &mut out,
     );
     if answer.code != 0 {
-        printing::say_place(answer.code, answer.place);
-        printing::say_reader(answer.code);
+        printing::say_place(errors, answer.code, answer.place)?;
+        printing::say_reader(errors, answer.code)
     } else {
-        printing::write_bytes(&out, answer.count as usize);
+        printing::write_bytes(to, &out, answer.count as usize)
     }
 }
 
-fn send(text: &[u8])
+fn send<W: Write, E: Write>(to: &mut W, errors: &mut E, text: &[u8]) -> io::Result<()>
     requires { length text.now ≤ 1000 }
 {
     let split = input::split_lines(text);
     let lines = split.lines;
     let n = split.count;
-    send_lines(text, lines, n);
+    send_lines(to, errors, text, lines, n)
 }
 
-// At most 1,000 bytes of standard input are a sheet.
-pub fn send_input() {
+// At most 1,000 bytes of input are a sheet.
+pub fn send_input<R: Read, W: Write, E: Write>(
+    from: &mut R,
+    to: &mut W,
+    errors: &mut E,
+) -> io::Result<()> {
     let mut text = [0u8; BYTES + 1];
-    let n = io::read_full(0, &mut text);
+    let n = input::read_full(from, &mut text)?;
     if BYTES < n {
-        io::write_all(2, b"input over 1000 bytes\n");
+        errors.write_all(b"input over 1000 bytes\n")
     } else {
-        send(&text[..n]);
+        send(to, errors, &text[..n])
     }
 }

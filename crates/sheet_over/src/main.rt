@@ -1,5 +1,7 @@
 #![tactic(auto)]
 // `sheet`, on 1,001 bytes.
-fn main() {
-    show::show_input();
+use std::io;
+
+fn main(rt: HostRuntime) -> io::Result<()> {
+    show::show_input(&mut rt.reader(), &mut io::writer(&rt))
 }

@@ -1,5 +1,7 @@
 #![tactic(auto)]
 // `sheet`, on a sheet with an attribute block over two lines, behind lone braces and one in verbatim.
-fn main() {
-    show::show_input();
+use std::io;
+
+fn main(rt: HostRuntime) -> io::Result<()> {
+    show::show_input(&mut rt.reader(), &mut io::writer(&rt))
 }

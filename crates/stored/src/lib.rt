@@ -1,7 +1,11 @@
 #![tactic(auto)]
-// Stored answers of the Rust, as decimal numbers with one byte behind each: what the programs that replay them share.
+// Stored answers of the Rust, as decimal numbers with one byte behind each: what the programs that
+// replay them share.
 ghost use Rattle.std.specs.Prelude.{◌≡◌, ◌%◌, length};
 ghost use Rattle.stored.specs.Numbers.{is_digit, number_at, Filled, byte, place};
+
+use std::io;
+use std::io::Write;
 
 // A number of the sample, and the place behind it.
 #[derive(Clone, Copy)]
@@ -89,9 +93,7 @@ pub fn fill_places(sample: &[u8], from: usize, places: &mut [usize]) -> usize
     at
 }
 
-pub fn write_report(r: Report) {
-    io::print_decimal(1, r.cases);
-    io::write_all(1, b" cases, ");
-    io::print_decimal(1, r.differ);
-    io::write_all(1, b" differ\n");
+pub fn write_report<W: Write>(to: &mut W, r: Report) -> io::Result<()> {
+    let Report { cases, differ } = r;
+    writeln!(to, "{cases} cases, {differ} differ")
 }

@@ -1,82 +1,82 @@
 #![tactic(auto)]
-// Prints the tokens of the first line of standard input: start, end and kind of each. At most 1,000 bytes are read.
+// Prints the tokens of the first line of standard input: start, end and kind of each. At most 1,000
+// bytes are read.
 ghost use Rattle.std.specs.Prelude.{◌≤◌, length};
 
 use lex::{Cursor, Delimiter, Kind, Next, Sequence, Symbol};
+use std::io;
+use std::io::Write;
 
-fn write_delimiter(d: Delimiter) -> bool {
+fn write_delimiter<W: Write>(to: &mut W, d: Delimiter) -> io::Result<()> {
     match d {
-        Delimiter::Brace => io::write_all(1, b"Brace"),
-        Delimiter::BraceAsterisk => io::write_all(1, b"BraceAsterisk"),
-        Delimiter::BraceCaret => io::write_all(1, b"BraceCaret"),
-        Delimiter::BraceEqual => io::write_all(1, b"BraceEqual"),
-        Delimiter::BraceHyphen => io::write_all(1, b"BraceHyphen"),
-        Delimiter::BracePlus => io::write_all(1, b"BracePlus"),
-        Delimiter::BraceTilde => io::write_all(1, b"BraceTilde"),
-        Delimiter::BraceUnderscore => io::write_all(1, b"BraceUnderscore"),
-        Delimiter::Bracket => io::write_all(1, b"Bracket"),
-        Delimiter::BraceQuote1 => io::write_all(1, b"BraceQuote1"),
-        Delimiter::BraceQuote2 => io::write_all(1, b"BraceQuote2"),
-        Delimiter::Paren => io::write_all(1, b"Paren"),
+        Delimiter::Brace => to.write_all(b"Brace"),
+        Delimiter::BraceAsterisk => to.write_all(b"BraceAsterisk"),
+        Delimiter::BraceCaret => to.write_all(b"BraceCaret"),
+        Delimiter::BraceEqual => to.write_all(b"BraceEqual"),
+        Delimiter::BraceHyphen => to.write_all(b"BraceHyphen"),
+        Delimiter::BracePlus => to.write_all(b"BracePlus"),
+        Delimiter::BraceTilde => to.write_all(b"BraceTilde"),
+        Delimiter::BraceUnderscore => to.write_all(b"BraceUnderscore"),
+        Delimiter::Bracket => to.write_all(b"Bracket"),
+        Delimiter::BraceQuote1 => to.write_all(b"BraceQuote1"),
+        Delimiter::BraceQuote2 => to.write_all(b"BraceQuote2"),
+        Delimiter::Paren => to.write_all(b"Paren"),
     }
 }
 
-fn write_symbol(s: Symbol) -> bool {
+fn write_symbol<W: Write>(to: &mut W, s: Symbol) -> io::Result<()> {
     match s {
-        Symbol::Asterisk => io::write_all(1, b"Asterisk"),
-        Symbol::Caret => io::write_all(1, b"Caret"),
-        Symbol::ExclaimBracket => io::write_all(1, b"ExclaimBracket"),
-        Symbol::Lt => io::write_all(1, b"Lt"),
-        Symbol::Pipe => io::write_all(1, b"Pipe"),
-        Symbol::Quote1 => io::write_all(1, b"Quote1"),
-        Symbol::Quote2 => io::write_all(1, b"Quote2"),
-        Symbol::Tilde => io::write_all(1, b"Tilde"),
-        Symbol::Underscore => io::write_all(1, b"Underscore"),
-        Symbol::Colon => io::write_all(1, b"Colon"),
+        Symbol::Asterisk => to.write_all(b"Asterisk"),
+        Symbol::Caret => to.write_all(b"Caret"),
+        Symbol::ExclaimBracket => to.write_all(b"ExclaimBracket"),
+        Symbol::Lt => to.write_all(b"Lt"),
+        Symbol::Pipe => to.write_all(b"Pipe"),
+        Symbol::Quote1 => to.write_all(b"Quote1"),
+        Symbol::Quote2 => to.write_all(b"Quote2"),
+        Symbol::Tilde => to.write_all(b"Tilde"),
+        Symbol::Underscore => to.write_all(b"Underscore"),
+        Symbol::Colon => to.write_all(b"Colon"),
     }
 }
 
-fn write_sequence(s: Sequence) -> bool {
+fn write_sequence<W: Write>(to: &mut W, s: Sequence) -> io::Result<()> {
     match s {
-        Sequence::Backtick => io::write_all(1, b"Backtick"),
-        Sequence::Hyphen => io::write_all(1, b"Hyphen"),
-        Sequence::Period => io::write_all(1, b"Period"),
+        Sequence::Backtick => to.write_all(b"Backtick"),
+        Sequence::Hyphen => to.write_all(b"Hyphen"),
+        Sequence::Period => to.write_all(b"Period"),
     }
 }
 
-fn write_kind(kind: Kind) -> bool {
+fn write_kind<W: Write>(to: &mut W, kind: Kind) -> io::Result<()> {
     match kind {
-        Kind::Text => io::write_all(1, b"Text"),
-        Kind::Newline => io::write_all(1, b"Newline"),
-        Kind::Nbsp => io::write_all(1, b"Nbsp"),
-        Kind::Hardbreak => io::write_all(1, b"Hardbreak"),
-        Kind::Escape => io::write_all(1, b"Escape"),
+        Kind::Text => to.write_all(b"Text"),
+        Kind::Newline => to.write_all(b"Newline"),
+        Kind::Nbsp => to.write_all(b"Nbsp"),
+        Kind::Hardbreak => to.write_all(b"Hardbreak"),
+        Kind::Escape => to.write_all(b"Escape"),
         Kind::Open(d) => {
-            io::write_all(1, b"Open ");
-            write_delimiter(d)
+            to.write_all(b"Open ")?;
+            write_delimiter(to, d)
         }
         Kind::Close(d) => {
-            io::write_all(1, b"Close ");
-            write_delimiter(d)
+            to.write_all(b"Close ")?;
+            write_delimiter(to, d)
         }
         Kind::Sym(s) => {
-            io::write_all(1, b"Sym ");
-            write_symbol(s)
+            to.write_all(b"Sym ")?;
+            write_symbol(to, s)
         }
         Kind::Seq(s) => {
-            io::write_all(1, b"Seq ");
-            write_sequence(s)
+            to.write_all(b"Seq ")?;
+            write_sequence(to, s)
         }
     }
 }
 
-fn write_token(start: usize, end: usize, kind: Kind) {
-    io::print_decimal(1, start as u64);
-    io::write_all(1, b" ");
-    io::print_decimal(1, end as u64);
-    io::write_all(1, b" ");
-    write_kind(kind);
-    io::write_all(1, b"\n");
+fn write_token<W: Write>(to: &mut W, start: usize, end: usize, kind: Kind) -> io::Result<()> {
+    write!(to, "{start} {end} ")?;
+    write_kind(to, kind)?;
+    to.write_all(b"\n")
 }
 
 // The length of the first line, its newline included.
@@ -100,27 +100,26 @@ fn first_line(text: &[u8]) -> &[u8] {
 }
 
 // A token is at least one byte, so there are at most as many as bytes.
-fn write_tokens(line: &[u8]) {
+fn write_tokens<W: Write>(to: &mut W, line: &[u8]) -> io::Result<()> {
     let flags = classes::classes();
     let mut c = Cursor::new(0, false);
-    let mut left = line.len();
-    while 0 < left {
+    for _ in 0..line.len() {
         let start = c.pos;
         let r = lexer::next_token(line, c, &flags);
         let found = r.token;
         let Next::Some(t) = found else {
-            return;
+            return Ok(());
         };
         c = r.cursor;
         let end = c.pos;
         let kind = t.kind;
-        write_token(start, end, kind);
-        left -= 1;
+        write_token(to, start, end, kind)?;
     }
+    Ok(())
 }
 
-fn main() {
+fn main(rt: HostRuntime) -> io::Result<()> {
     let mut text = [0u8; 1000];
-    let n = io::read_full(0, &mut text);
-    write_tokens(first_line(&text[..n]));
+    let n = input::read_full(&mut rt.reader(), &mut text)?;
+    write_tokens(&mut io::writer(&rt), first_line(&text[..n]))
 }

@@ -1,5 +1,7 @@
 #![tactic(auto)]
 // `./unpack`: the events of a packed list of standard input. A list has at most 65,536 bytes.
-fn main() {
-    receive::receive_input();
+use std::io;
+
+fn main(rt: HostRuntime) -> io::Result<()> {
+    receive::receive_input(&mut rt.reader(), &mut io::writer(&rt), &mut rt.stderr())
 }
