@@ -49,7 +49,7 @@ use Rattle.reading.proofs.Spans.{Any, Gap, Covers, covers_up, covers-parts, cove
 use Rattle.reading.proofs.Places.{HereOk, here-ok, peek-place}
 use Rattle.reading.proofs.Tables.{KindOk, closing-ok}
 use Rattle.reading.proofs.Good.{Out, In, GoodBy, Ends}
-use Rattle.reading.proofs.Ruling.{by-rule}
+use Rattle.reading.proofs.Ruling.{by-rule-where}
 use Rattle.reading.proofs.Backticks.{Shows, taken-ends, cut-amend}
 use Rattle.reading.proofs.Stepping.{Held, either, either₂, step-held}
 use Rattle.reading.proofs.Feeding.{Rising, Stood, view-long, view-shows, step-on, steps-some, begun-held, fed-stood, start-stood}
@@ -233,7 +233,7 @@ module _ (Loose : ℕ → Type 0) (text : List ℕ) (x : Sheet) (v : View) (i n 
 
   pub outside-grows : (h : Here) → At h → (r : Role) → Grows (v.base + i) s.queue (outside x v h r s).state.queue
   outside-grows h a r =
-      by-rule x x v s Then At (λ r. Unit {0}) (λ h j c l a. (a.0, omega (arith, l, a.1))) tt tt
+      by-rule-where x x v s Then At (λ r. Unit {0}) (λ h j c l a. (a.0, omega (arith, l, a.1))) tt tt
       (λ h a m ok. opens-grows h a m.alone m.opens)
       closes-grows
       (λ h a k. grows-puts _ s.queue s.queue _ (grows_same _ s.queue)

@@ -48,7 +48,7 @@ use Rattle.reading.proofs.Queue.{Inner, inner-amend, inner-enters, inner-within}
 use Rattle.reading.proofs.Spans.{Any, Gap, Covers, covers_up}
 use Rattle.reading.proofs.Tables.{traits, Bare, Low, KindOk, RoleOk, closing-ok, unclosed-low, plain_ok, bracket-ok, role-ok}
 use Rattle.reading.proofs.Good.{Out, In, GoodBy}
-use Rattle.reading.proofs.Ruling.{by-rule}
+use Rattle.reading.proofs.Ruling.{by-rule-where}
 use Rattle.reading.proofs.Backticks.{Shows, raw-wraps}
 use Rattle.reading.proofs.Stepping.{Held, either}
 use Rattle.reading.proofs.Feeding.{Rising, Stood, view-long, view-shows, step-on, begun-held, fed-stood, start-stood}
@@ -250,7 +250,7 @@ module _ (x : Sheet) (labels : ℕ) where
     outside-homed : (h : Here) → At h → (r : Role) → RoleOk r → Then v (outside x v h r s)
     unfolding RoleOk
     outside-homed =
-        by-rule x x v s (λ a b. Then v a) At RoleOk (λ h j c l a. a) (plain_ok str (omega arith)) bracket-ok
+        by-rule-where x x v s (λ a b. Then v a) At RoleOk (λ h j c l a. a) (plain_ok str (omega arith)) bracket-ok
         (λ h a m ok z. opens-homed h m.alone m.opens ok.0)
         (λ h a c o os e z. closed-homed h a o os (closing_of o.sort) (closing-ok o.sort))
         (λ h a n z f l. all_append _ _ (k f l) (all-address _ _ _ _ (omega arith) (omega arith)))

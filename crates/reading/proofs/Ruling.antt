@@ -149,24 +149,50 @@ module _ (x y : Sheet) (v : View) (s : State) (P : Turn → Turn → Type 0) (At
       (λ z. contained _ (moves h h.to p.cursor (omega arith) e) bracket as-bracket)
 
   -- a token outside verbatim. Of a brace it is to be shown apart, since a block may stand there in one sheet and not in the other
-  pub each-rule : (h : Here) → At h → (P (container x v h (plain str) s) (container y v h (plain str) s)
+  pub each-rule-where : (h : Here) → At h → (P (container x v h (plain str) s) (container y v h (plain str) s)
       → P (braced x v h (x.block (v.base + h.from)) s) (braced y v h (y.block (v.base + h.from)) s))
       → (r : Role) → Ok r → P (outside x v h r s) (outside y v h r s)
   unfolding outside
-  each-rule h e b role.Backticks ok = choose₂ P (leb (h.to - h.from) 255) _ _ _ _ (λ z. opens h e) (λ z. lone h e)
-  each-rule h e b role.Brace ok = b (lone h e)
-  each-rule h e b role.Lt ok = by-angle h e (autolink_of (drop h.to v.bytes))
-  each-rule h e b role.Colon ok = by-colon h e (symbol_of (drop h.to v.bytes))
-  each-rule h e b role.Bracket ok = by-bracket h e _ _
-  each-rule h e b role.Paren ok = lone h e
-  each-rule h e b role.Periods ok = periods h e
-  each-rule h e b role.Hyphens ok = choose₂ P (ltb (h.to - h.from) 2) _ _ _ _ (λ z. lone h e) (λ z. hyphens h e)
-  each-rule h e b (role.Other m) ok = contained h e m ok
+  each-rule-where h e b role.Backticks ok = choose₂ P (leb (h.to - h.from) 255) _ _ _ _ (λ z. opens h e) (λ z. lone h e)
+  each-rule-where h e b role.Brace ok = b (lone h e)
+  each-rule-where h e b role.Lt ok = by-angle h e (autolink_of (drop h.to v.bytes))
+  each-rule-where h e b role.Colon ok = by-colon h e (symbol_of (drop h.to v.bytes))
+  each-rule-where h e b role.Bracket ok = by-bracket h e _ _
+  each-rule-where h e b role.Paren ok = lone h e
+  each-rule-where h e b role.Periods ok = periods h e
+  each-rule-where h e b role.Hyphens ok = choose₂ P (ltb (h.to - h.from) 2) _ _ _ _ (λ z. lone h e) (λ z. hyphens h e)
+  each-rule-where h e b (role.Other m) ok = contained h e m ok
+
+  -- with blocks at the same places: of one that refuses the sheet
+  pub by-rule-where : ((p : ℕ) → x.block p ≡ y.block p)
+      → ((h : Here) → At h → let a : Turn = record { cursor = h.cursor; state = refuse (v.base + h.from) s } in P a a)
+      → (h : Here) → At h → (r : Role) → Ok r → P (outside x v h r s) (outside y v h r s)
+  by-rule-where same refuses h e = each-rule-where h e (by-brace x y v s P h (same (v.base + h.from)) (refuses h e))
+
+-- the same of a token of any role: P is of the turns that two sheets x and y make of a state, at a token that stands as `At` says. It is to be shown of what stands alone or opens, of what closes
+-- an opener that was sought, of what the scans accept, of periods and hyphens, of a run that opens a verbatim, and of a brace
+module _ (x y : Sheet) (v : View) (s : State) (P : Turn → Turn → Type 0) (At : Here → Type 0)
+    (moves : (h : Here) (j : ℕ) (c : Cursor) → h.to ≤ j → At h → At (record { from = h.from; to = j; cursor = c }))
+    (alone : (h : Here) → At h → (m : Marks) → let a : Turn = record { cursor = h.cursor; state = opens_or v h m.alone m.opens s } in P a a)
+    (closes : (h : Here) → At h → (c : ℕ) (o : Opener) (os : List Opener) → seek c s.openers ≡ o ∷ os
+    → P (close_as x v h o (closing_of o.sort) (with_openers os s)) (close_as y v h o (closing_of o.sort) (with_openers os s)))
+    (links : (h : Here) → At h → (n : ℕ) → P (autolinked v h n s) (autolinked v h n s))
+    (names : (h : Here) → At h → (kind n : ℕ) → P (named kind v h n s) (named kind v h n s))
+    (periods : (h : Here) → At h → let a : Turn = record { cursor = h.cursor; state = dots v h.from (h.to - h.from) s } in P a a)
+    (hyphens : (h : Here) → At h
+    → let a : Turn = record { cursor = h.cursor; state = puts (dashes (dashes_of (h.to - h.from)) (v.base + h.from)) no_str s } in P a a)
+    (opens : (h : Here) → At h → P (opens_verbatim v h s) (opens_verbatim v h s)) where
+  -- a token outside verbatim. Of a brace it is to be shown apart, since a block may stand there in one sheet and not in the other
+  pub each-rule : (h : Here) → At h → (P (container x v h (plain str) s) (container y v h (plain str) s)
+      → P (braced x v h (x.block (v.base + h.from)) s) (braced y v h (y.block (v.base + h.from)) s))
+      → (r : Role) → P (outside x v h r s) (outside y v h r s)
+  each-rule h e b r =
+      each-rule-where x y v s P At (λ r. Unit {0}) moves tt tt (λ h e m ok. alone h e m) closes links (λ h e kind n l u. names h e kind n) periods hyphens opens h e b r tt
 
   -- with blocks at the same places: of one that refuses the sheet
   pub by-rule : ((p : ℕ) → x.block p ≡ y.block p)
       → ((h : Here) → At h → let a : Turn = record { cursor = h.cursor; state = refuse (v.base + h.from) s } in P a a)
-      → (h : Here) → At h → (r : Role) → Ok r → P (outside x v h r s) (outside y v h r s)
+      → (h : Here) → At h → (r : Role) → P (outside x v h r s) (outside y v h r s)
   by-rule same refuses h e = each-rule h e (by-brace x y v s P h (same (v.base + h.from)) (refuses h e))
 
 -- where P is of all that keeps the four sides, it is to be shown of a link that closes, of a run that opens a verbatim, and of a brace
@@ -184,8 +210,8 @@ module _ (x y : Sheet) (v : View) (s : State) (P : Turn → Turn → Type 0) (ke
       → P (braced x v h (x.block (v.base + h.from)) s) (braced y v h (y.block (v.base + h.from)) s))
       → (r : Role) → P (outside x v h r s) (outside y v h r s)
   each-ruled h b r =
-      each-rule x y v s P (λ h. Unit {0}) (λ r. Unit {0}) (λ h j c l e. tt) tt tt (λ h e m ok. keeps _ (opens_kept v h s m.alone m.opens)) (λ h e c o os k. closed h o (closing_of o.sort) os)
-      (λ h e n. keeps _ refl) (λ h e kind n l u. keeps _ refl) (λ h e. keeps _ refl) (λ h e. keeps _ refl) (λ h e. opens h) h tt b r tt
+      each-rule x y v s P (λ h. Unit {0}) (λ h j c l e. tt) (λ h e m. keeps _ (opens_kept v h s m.alone m.opens)) (λ h e c o os k. closed h o (closing_of o.sort) os)
+      (λ h e n. keeps _ refl) (λ h e kind n. keeps _ refl) (λ h e. keeps _ refl) (λ h e. keeps _ refl) (λ h e. opens h) h tt b r
 
   pub ruled : ((p : ℕ) → x.block p ≡ y.block p) → ((h : Here) → let a : Turn = record { cursor = h.cursor; state = refuse (v.base + h.from) s } in P a a)
       → (h : Here) (r : Role) → P (outside x v h r s) (outside y v h r s)

@@ -11,7 +11,6 @@ use Rattle.reading.specs.declared.Opener.{Opener}
 use Rattle.reading.specs.declared.Opens.{Opens}
 use Rattle.reading.specs.declared.Opens.TheVariants as opens
 use Rattle.reading.specs.declared.Marks.{Marks}
-use Rattle.reading.specs.declared.Pair.{Pair}
 use Rattle.reading.specs.declared.Role.{Role}
 use Rattle.reading.specs.declared.Role.TheVariants as role
 use Rattle.reading.specs.declared.DelimEventKind.{DelimEventKind}
