@@ -16,7 +16,7 @@ OUTSIDE = set("""some_of upto_some crates/scan/proofs/upto_some/Answers.antt rat
     is_ascii_whitespace set_current_line VecDeque memset perf ../shared/docs crates/door/src/main.rt target/staticlib/libmivurakol.a""".split())
 # gone, or under another name now, and said to be: in docs/CHANGES.md and docs/REVIEW.md
 GONE = set("""Shelved shelved Shelf Shelves Shelving shelve roomy pour pile Bits Telling reader/specs/Asking classes/special_bit_lost
-    lexer/line_in_verbatim later_as_str reading/event_too_many Hidden""".split())
+    lexer/line_in_verbatim later_as_str reading/event_too_many Hidden proofs/Twin/""".split())
 HISTORY = ["docs/CHANGES.md", "docs/REVIEW.md"]
 FOLDERS = ["", "crates/", "crates/*/", "crates/*/*/", "crates/*/*/*/", "tools/"]
 PLACES = ["crates", "tools", "compare", "bench", "interface", "sheet", "tokens", "crates.txt", ".ci"]
