@@ -53,8 +53,9 @@ fn write_lines(
     out: &mut [u8],
 ) -> FragmentAnswer
     requires { n ≤ 1000 }
-    ensures { fragmented_of result (rooms_of events.new queue.new openers.new labels.new) out.new ≡ fragmented
-        text.now (take n lines) 0 (rooms_of events.old queue.old openers.old labels.old) out.old }
+    ensures { fragmented_of result (rooms_of events.new queue.new openers.new labels.new) out.new
+        ≡ fragmented text.now (take n lines) 0
+        (rooms_of events.old queue.old openers.old labels.old) out.old }
 {
     fragment::write(text, &lines[..n], 0, events, queue, openers, labels, out)
 }

@@ -1,6 +1,7 @@
 #![tactic(auto)]
-// Replays the stored answers of the Rust, case by case, and prints how many cases there were and how many differ.
-// A case begins with its sort: 0 the tokens of a line, 1 to 4 a scan ahead, 5 a run of hyphens, 6 a run of periods.
+// Replays the stored answers of the Rust, case by case, and prints how many cases there were and
+// how many differ. A case begins with its sort: 0 the tokens of a line, 1 to 4 a scan ahead, 5 a
+// run of hyphens, 6 a run of periods.
 use exports::{Counts, CursorNumbers, Scanned};
 use std::io;
 use std::io::{Read, Write};

@@ -1,8 +1,9 @@
 #![tactic(auto)]
-// Replays the stored sheets: each is read in rooms of the stored sizes, and the answer and every number of every room are compared. Prints how
-// many cases there were and how many differ.
-// A case is a line of numbers: the reading; how many bytes, starts and ends, each with these behind it; the sizes of the rooms for events, queue,
-// openers and labels; the answer; and, of a sheet that is read, the events and the label bytes.
+// Replays the stored sheets: each is read in rooms of the stored sizes, and the answer and every
+// number of every room are compared. Prints how many cases there were and how many differ.
+// A case is a line of numbers: the reading; how many bytes, starts and ends, each with these behind
+// it; the sizes of the rooms for events, queue, openers and labels; the answer; and, of a sheet that
+// is read, the events and the label bytes.
 ghost use Rattle.std.specs.Prelude.{◌≤◌, ◌<◌, min, length, ◌≡◌};
 ghost use Rattle.replay_sheets.specs.Rooms.{all_are, same_as, holds};
 

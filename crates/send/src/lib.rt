@@ -31,10 +31,12 @@ fn pack_lines(
     out: &mut [u8],
 ) -> PackedAnswer
     requires n_bound { n ≤ 1000 }
-    requires event_numbers_in_bounds { enough_bytes (length events.old / event_numbers) ≤ length out.old }
-    ensures out_after { call result out.new ≡ sent (outcome text.now (take n lines) 0 (rooms_of events.old queue.old
-        openers.old labels.old)) out.old }
-    ensures code_value { result.code ≡ (outcome text.now (take n lines) 0 (rooms_of events.old queue.old openers.old labels.old)).answer.code }
+    requires event_numbers_in_bounds { enough_bytes (length events.old / event_numbers)
+        ≤ length out.old }
+    ensures out_after { call result out.new ≡ sent (outcome text.now (take n lines) 0
+        (rooms_of events.old queue.old openers.old labels.old)) out.old }
+    ensures code_value { result.code ≡ (outcome text.now (take n lines) 0
+        (rooms_of events.old queue.old openers.old labels.old)).answer.code }
 {
     let answer = show::read_lines(text, lines, n, events, queue, openers, labels);
     if answer.code != 0 {

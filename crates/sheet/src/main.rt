@@ -1,5 +1,6 @@
 #![tactic(auto)]
-// `./sheet`: the events of a sheet of standard input, a line each, and the answer. A sheet has at most 1,000 bytes.
+// `./sheet`: the events of a sheet of standard input, a line each, and the answer. A sheet has at
+// most 1,000 bytes.
 use std::io;
 
 fn main(rt: HostRuntime) -> io::Result<()> {

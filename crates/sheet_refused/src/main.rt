@@ -1,5 +1,6 @@
 #![tactic(auto)]
-// `sheet`, on a sheet with an attribute block over two lines, behind lone braces and one in verbatim.
+// `sheet`, on a sheet with an attribute block over two lines, behind lone braces and one in
+// verbatim.
 use std::io;
 
 fn main(rt: HostRuntime) -> io::Result<()> {

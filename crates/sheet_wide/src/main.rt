@@ -1,5 +1,6 @@
 #![tactic(auto)]
-// `sheet`, on a wide sheet of 1,000 bytes: every kind of event, labels in the text and in the label room, links that are dropped.
+// `sheet`, on a wide sheet of 1,000 bytes: every kind of event, labels in the text and in the label
+// room, links that are dropped.
 use std::io;
 
 fn main(rt: HostRuntime) -> io::Result<()> {
