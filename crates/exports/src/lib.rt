@@ -8,7 +8,7 @@ ghost use Rattle.scan.specs.Scans.{autolink_of, symbol_of, footnote_of, raw_form
 ghost use Rattle.dash.specs.Dashes.{dashes_of, dots_of};
 ghost use Rattle.reading.specs.Events.{event_numbers};
 ghost use Rattle.reading.specs.Questions.{total, outcome};
-ghost use Rattle.reading.specs.Walked.{Accepted, Homed};
+ghost use Rattle.reading.specs.Walked.{Accepted, AcceptedHomes};
 ghost use Rattle.inline.specs.Lines.{lines_of};
 ghost use Rattle.outcome.specs.Outcomes.{rooms_of, outcome_of};
 ghost use Rattle.exports.specs.Numbers.{delimiter_number, symbol_number, sequence_number, kind_number, mark_of, token_of, cursor_of, state_of, step_of};
@@ -401,10 +401,10 @@ pub fn mivurakol_read_numbers(
     openers: &mut [u32],
     labels: &mut [u8],
 ) -> Answer
-    ensures labels_after { outcome_of result events.new queue.new openers.new labels.new ≡ outcome text.now
+    ensures as_defined { outcome_of result events.new queue.new openers.new labels.new ≡ outcome text.now
         (lines_of starts.now ends.now) reading (rooms_of events.old queue.old openers.old labels.old) }
     ensures accepted { result.code ≡ 0 → Accepted text.now (lines_of starts.now ends.now) reading (rooms_of events.old queue.old openers.old labels.old) (outcome_of result events.new queue.new openers.new labels.new) }
-    ensures homed { result.code ≡ 0 → Homed text.now (lines_of starts.now ends.now) reading (rooms_of events.old queue.old openers.old labels.old) (outcome_of result events.new queue.new openers.new labels.new) }
+    ensures homed { result.code ≡ 0 → AcceptedHomes text.now (lines_of starts.now ends.now) reading (rooms_of events.old queue.old openers.old labels.old) (outcome_of result events.new queue.new openers.new labels.new) }
     ensures events_suffice { total (lines_of starts.now ends.now) + 1 ≤ length events.old / event_numbers → result.code ≡ 9 → ⊥ }
 {
     reader::read(text, starts, ends, reading, events, queue, openers, labels)

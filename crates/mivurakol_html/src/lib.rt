@@ -21,7 +21,7 @@ pub extern "C" fn mivurakol_fragment(
     labels: &mut [u8],
     out: &mut [u8],
 ) -> FragmentAnswer
-    ensures out_after { fragmented_of result (rooms_of events.new queue.new openers.new labels.new) out.new ≡ fragmented
+    ensures as_defined { fragmented_of result (rooms_of events.new queue.new openers.new labels.new) out.new ≡ fragmented
         text.now lines.now reading (rooms_of events.old queue.old openers.old labels.old) out.old }
     ensures shows { result.code ≡ 0 → Shows text.now lines.now reading (rooms_of events.old queue.old openers.old labels.old) (fragmented_of result (rooms_of events.new queue.new openers.new labels.new)
         out.new) }

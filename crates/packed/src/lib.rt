@@ -79,7 +79,7 @@ fn settle(r: Put, out: &mut [u8]) -> PackedAnswer
 
 // Packs the whole records of the events.
 pub fn pack(events: &[u32], out: &mut [u8]) -> PackedAnswer
-    ensures out_after { call result out.new ≡ packing events.now out.old }
+    ensures as_defined { call result out.new ≡ packing events.now out.old }
     ensures room_suffices { enough_bytes (length events.now / event_numbers) ≤ length out.old → result.code ≡ 13 → ⊥ }
 {
     let n = events.len() / EVENT_NUMBERS;
@@ -131,7 +131,7 @@ pub fn restore(bytes: &[u8], events: &mut [u32]) -> Restored
 
 // Unpacks a list.
 pub fn unpack(bytes: &[u8], events: &mut [u32]) -> PackedAnswer
-    ensures events_after { call result events.new ≡ unpacking bytes.now events.old }
+    ensures as_defined { call result events.new ≡ unpacking bytes.now events.old }
     ensures room_suffices { enough_events (length bytes.now) ≤ length events.old / event_numbers → result.code ≡ 13 → ⊥ }
 {
     let r = restore(bytes, events);

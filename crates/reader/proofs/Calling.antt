@@ -15,7 +15,7 @@ use Rattle.reading.specs.Draining.{drain}
 use Rattle.reading.specs.Reading.{sheet, read}
 use Rattle.reading.specs.Events.{event_numbers}
 use Rattle.reading.specs.Questions.{Rooms, Outcome, total, label_room, refuses, cleared, handed_out, judged, outcome}
-use Rattle.reading.specs.Walked.{Accepted, Homed}
+use Rattle.reading.specs.Walked.{Accepted, AcceptedHomes}
 use Rattle.reading.proofs.Answers.{accepted, never-nine, homed}
 use Rattle.rooms.specs.declared.Parser.{Parser}
 use Rattle.rooms.specs.Standing.{stands}
@@ -94,8 +94,8 @@ module _ (text : List ℕ) (ls : List Line) (reading : ℕ) where
   )
 
   -- the homes of its events
-  pub owed-homed : (rooms : Rooms) (x : Outcome) → x ≡ outcome text ls reading rooms → x.answer.code ≡ 0 → Homed text ls reading rooms x
-  owed-homed rooms x e = subst (λ (y : Outcome). y.answer.code ≡ 0 → Homed text ls reading rooms y) (sym e) (homed text ls reading rooms)
+  pub owed-homed : (rooms : Rooms) (x : Outcome) → x ≡ outcome text ls reading rooms → x.answer.code ≡ 0 → AcceptedHomes text ls reading rooms x
+  owed-homed rooms x e = subst (λ (y : Outcome). y.answer.code ≡ 0 → AcceptedHomes text ls reading rooms y) (sym e) (homed text ls reading rooms)
 
   module _ (e q o l : List ℕ) (a : Asked) (h : a ≡ asked_of text ls reading (length q) (length o)) where
     -- a refusal under 1 to 6

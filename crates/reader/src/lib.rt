@@ -5,7 +5,7 @@ ghost use Rattle.reading.specs.Events.{event_numbers};
 ghost use Rattle.reading.specs.Draining.{drain};
 ghost use Rattle.reading.specs.Reading.{sheet, read as read_of};
 ghost use Rattle.reading.specs.Questions.{total, counting, label_room, handed_out, judged, outcome};
-ghost use Rattle.reading.specs.Walked.{Accepted, Homed};
+ghost use Rattle.reading.specs.Walked.{Accepted, AcceptedHomes};
 ghost use Rattle.rooms.specs.Records.{events as events_of};
 ghost use Rattle.rooms.specs.Standing.{stands};
 ghost use Rattle.inline.specs.Lines.{lines_of};
@@ -156,10 +156,10 @@ pub fn read(
     openers: &mut [u32],
     labels: &mut [u8],
 ) -> Answer
-    ensures labels_after { outcome_of result events.new queue.new openers.new labels.new ≡ outcome text.now
+    ensures as_defined { outcome_of result events.new queue.new openers.new labels.new ≡ outcome text.now
         (lines_of starts.now ends.now) reading (rooms_of events.old queue.old openers.old labels.old) }
     ensures accepted { result.code ≡ 0 → Accepted text.now (lines_of starts.now ends.now) reading (rooms_of events.old queue.old openers.old labels.old) (outcome_of result events.new queue.new openers.new labels.new) }
-    ensures homed { result.code ≡ 0 → Homed text.now (lines_of starts.now ends.now) reading (rooms_of events.old queue.old openers.old labels.old) (outcome_of result events.new queue.new openers.new labels.new) }
+    ensures homed { result.code ≡ 0 → AcceptedHomes text.now (lines_of starts.now ends.now) reading (rooms_of events.old queue.old openers.old labels.old) (outcome_of result events.new queue.new openers.new labels.new) }
     ensures events_suffice { total (lines_of starts.now ends.now) + 1 ≤ length events.old / event_numbers → result.code ≡ 9 → ⊥ }
 {
     let asked = questions::questions(text, starts, ends, reading, queue.len(), openers.len());

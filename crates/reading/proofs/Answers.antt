@@ -17,7 +17,7 @@ use Rattle.reading.specs.Draining.{drain}
 use Rattle.reading.specs.Events.{event_numbers, largest}
 use Rattle.reading.specs.Questions.{Rooms, Outcome, Fed, total, first_outside, first_early, label_room, refuses, cleared, handed_out, judged}
 use Rattle.reading.specs.Questions.{outcome_with, outcome}
-use Rattle.reading.specs.Walked.{Accepted, Homed}
+use Rattle.reading.specs.Walked.{Accepted, AcceptedHomes}
 use Rattle.reading.proofs.Choose.{choose}
 use Rattle.reading.proofs.Feeding.{Rising}
 use Rattle.reading.proofs.Theorems.{up, homes, room, whole}
@@ -96,7 +96,7 @@ module _ (text : List ℕ) (ls : List Line) (reading : ℕ) (rooms : Rooms) wher
       go r f fed false b e = absurd (omega (arith, rw (b, handed_out) at e))
 
   -- the homes of the events of every accepted sheet
-  pub homed : (outcome text ls reading rooms).answer.code ≡ 0 → Homed text ls reading rooms (outcome text ls reading rooms)
+  pub homed : (outcome text ls reading rooms).answer.code ≡ 0 → AcceptedHomes text ls reading rooms (outcome text ls reading rooms)
   unfolding handed_out
   homed =
       asks Claim (λ code at l u e. absurd (omega (arith, e, l)))
@@ -104,7 +104,7 @@ module _ (text : List ℕ) (ls : List Line) (reading : ℕ) (rooms : Rooms) wher
       (λ r f. go r f fed (leb (length (drain (read x ls).queue)) (length rooms.events / event_numbers)) refl))
     where
       Claim : Outcome → Type 0
-      Claim o = o.answer.code ≡ 0 → Homed text ls reading rooms o
+      Claim o = o.answer.code ≡ 0 → AcceptedHomes text ls reading rooms o
 
       go : (read x ls).refused ≡ refused.No → (read x ls).fits ≡ true → Fed text ls → (b : Bool) → leb (length (drain (read x ls).queue)) (length rooms.events / event_numbers) ≡ b
           → Claim (handed_out (drain (read x ls).queue) (read x ls).labels rooms)

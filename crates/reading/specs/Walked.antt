@@ -97,5 +97,5 @@ pub record Accepted (text : List ℕ) (ls : List Line) (reading : ℕ) (rooms : 
   pub handed : o.rooms.events ≡ filled (numbers (events (sheet text ls reading (label_room rooms.labels)) ls)) rooms.events
 
 -- and of an accepted sheet each event has the home and the link number that its kind has
-pub record Homed (text : List ℕ) (ls : List Line) (reading : ℕ) (rooms : Rooms) (o : Outcome) : Type 0 where
+pub record AcceptedHomes (text : List ℕ) (ls : List Line) (reading : ℕ) (rooms : Rooms) (o : Outcome) : Type 0 where
   pub homes : AllHomed (length text) o.answer.labels (events (sheet text ls reading (label_room rooms.labels)) ls)

@@ -6,7 +6,7 @@ ghost use Rattle.reading.specs.Machine.{view_of};
 ghost use Rattle.reading.specs.Blocks.{block_at};
 ghost use Rattle.reading.specs.Reading.{sheet, views, line as line_of, read as read_of};
 ghost use Rattle.reading.specs.Questions.{total, label_room, outcome};
-ghost use Rattle.reading.specs.Walked.{Accepted, Homed};
+ghost use Rattle.reading.specs.Walked.{Accepted, AcceptedHomes};
 ghost use Rattle.inline.specs.Lines.{none};
 ghost use Rattle.inline.specs.Asks.{Sheeted, Behind, Within, StandsFor};
 ghost use Rattle.classes.specs.Classes.{Ruled};
@@ -193,10 +193,10 @@ pub fn read(
     openers: &mut [u32],
     labels: &mut [u8],
 ) -> Answer
-    ensures labels_after { outcome_of result events.new queue.new openers.new labels.new ≡ outcome text.now
+    ensures as_defined { outcome_of result events.new queue.new openers.new labels.new ≡ outcome text.now
         lines.now reading (rooms_of events.old queue.old openers.old labels.old) }
     ensures accepted { result.code ≡ 0 → Accepted text.now lines.now reading (rooms_of events.old queue.old openers.old labels.old) (outcome_of result events.new queue.new openers.new labels.new) }
-    ensures homed { result.code ≡ 0 → Homed text.now lines.now reading (rooms_of events.old queue.old openers.old labels.old) (outcome_of result events.new queue.new openers.new labels.new) }
+    ensures homed { result.code ≡ 0 → AcceptedHomes text.now lines.now reading (rooms_of events.old queue.old openers.old labels.old) (outcome_of result events.new queue.new openers.new labels.new) }
     ensures events_suffice { total lines.now + 1 ≤ length events.old / event_numbers → result.code ≡ 9 → ⊥ }
 {
     let asked = questions(text, lines, reading, queue.len(), openers.len());

@@ -33,7 +33,7 @@ fn pack_lines(
     requires n_bound { n ≤ 1000 }
     requires event_numbers_in_bounds { enough_bytes (length events.old / event_numbers)
         ≤ length out.old }
-    ensures out_after { call result out.new ≡ sent (outcome text.now (take n lines) 0
+    ensures as_defined { call result out.new ≡ sent (outcome text.now (take n lines) 0
         (rooms_of events.old queue.old openers.old labels.old)) out.old }
     ensures code_value { result.code ≡ (outcome text.now (take n lines) 0
         (rooms_of events.old queue.old openers.old labels.old)).answer.code }

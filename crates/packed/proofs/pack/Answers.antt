@@ -10,4 +10,4 @@ settle-requires c = subst (Within c.put_list-r.result) (sym c.put_list-r.ensures
 pub returns : goal.returns
 returns c = let both = settled-packing c.args.events.now c.args.out.now c.put_list-r.result c.put_list-r.new.out
     c.put_list-r.ensures c.settle.result c.settle.new.out c.settle.ensures in
-    record { out_after = both.0; room_suffices = both.1 }
+    record { as_defined = both.0; room_suffices = both.1 }

@@ -25,7 +25,7 @@ returns-in-Refused c = let all = owed c.args.text.now (lines_of c.args.starts.no
     (refused-early c.args.text.now (lines_of c.args.starts.now c.args.ends.now) c.args.reading c.args.events.now
     c.args.queue.now c.args.openers.now c.args.labels.now c.questions-asked.result c.questions-asked.ensures
     c.in-Refused.answer c.in-Refused.is) in record {
-      labels_after = all.0;
+      as_defined = all.0;
       accepted = all.1.0;
       homed = owed-homed
           c.args.text.now (lines_of c.args.starts.now c.args.ends.now) c.args.reading
@@ -44,7 +44,7 @@ returns-in-Fed c = let all = owed c.args.text.now (lines_of c.args.starts.now c.
     c.parse_lines-p.result c.parse_lines-p.new.queue c.parse_lines-p.new.openers c.parse_lines-p.new.labels
     c.in-Fed.is c.parse_lines-p.ensures.stands_for c.parse_lines-p.auto.queue c.parse_lines-p.auto.openers
     c.parse_lines-p.auto.labels _ c.judge.ensures) in record {
-      labels_after = all.0;
+      as_defined = all.0;
       accepted = all.1.0;
       homed = owed-homed c.args.text.now (lines_of c.args.starts.now c.args.ends.now) c.args.reading
           (rooms_of c.args.events.now c.args.queue.now c.args.openers.now c.args.labels.now) _

@@ -11,7 +11,7 @@ returns-then-answer-ne0 c = let sent = refused-sent c.args.text.now (take c.args
     (rooms_of c.args.events.now c.args.queue.now c.args.openers.now c.args.labels.now)
     (outcome_of c.read_lines-answer.result c.read_lines-answer.new.events c.read_lines-answer.new.queue
     c.read_lines-answer.new.openers c.read_lines-answer.new.labels) c.read_lines-answer.ensures c.args.out.now
-    c.if-answer-ne0.true in record { out_after = sent.0; code_value = sent.1 }
+    c.if-answer-ne0.true in record { as_defined = sent.0; code_value = sent.1 }
 
 pub slice_bounds-pack-end : goal.slice_bounds-pack-end
 slice_bounds-pack-end c = handed_out c.args.text.now (take c.args.n c.args.lines)
@@ -29,4 +29,4 @@ returns c = let sent = accepted-sent c.args.text.now (take c.args.n c.args.lines
     (outcome_of c.read_lines-answer.result c.read_lines-answer.new.events c.read_lines-answer.new.queue
     c.read_lines-answer.new.openers c.read_lines-answer.new.labels) c.read_lines-answer.ensures
     c.if-answer-ne0.false c.args.out.now c.pack.result c.pack.new.out c.requires.event_numbers_in_bounds
-    c.read_lines-answer.auto.events c.pack.ensures.out_after in record { out_after = sent.0; code_value = sent.1 }
+    c.read_lines-answer.auto.events c.pack.ensures.as_defined in record { as_defined = sent.0; code_value = sent.1 }
