@@ -7,7 +7,7 @@ use lib.ListN.{length, get_or, take, drop}
 use lib.Seq.{drop-cons}
 use Rattle.reading.specs.declared.Line.{Line}
 use Rattle.reading.specs.Machine.{Sheet, State, Turn, View, view_of}
-use Rattle.reading.specs.Reading.{steps, begun, line as Line-of, lines, views, start, end_of, sheet}
+use Rattle.reading.specs.Reading.{steps, begun, line as line_of, lines, views, start, end_of, sheet}
 use Rattle.reading.specs.Questions.{total}
 use Rattle.reading.proofs.Spans.{Gap, Any}
 use Rattle.reading.proofs.Backticks.{Shows}
@@ -35,7 +35,7 @@ unfolding Rising total lines
 links-lines x text a [] r s = omega arith
 links-lines x text a (l ∷ ls) r s =
     let v = view_of text l in
-    omega (arith, links-lines x text l.end ls r.3 (Line-of x v s), links-line x v s, view-long text l r.1 r.2)
+    omega (arith, links-lines x text l.end ls r.3 (line_of x v s), links-line x v s, view-long text l r.1 r.2)
 
 -- what is known within a line
 pub record Begins (text line : List ℕ) (m : Margin) (p : Parser) (q o l : List ℕ) : Type 0 where

@@ -15,7 +15,7 @@ use Rattle.reading.specs.declared.Inside.{Inside}
 use Rattle.reading.specs.Machine.{View, Sheet, State, Turn, view_of, with_inside}
 use Rattle.reading.specs.Events.{event, str}
 use Rattle.reading.specs.Verbatim.{moved_on}
-use Rattle.reading.specs.Reading.{steps, begun, line as Line-of, lines, views, start, resumed, sheet, unasked}
+use Rattle.reading.specs.Reading.{steps, begun, line as line_of, lines, views, start, resumed, sheet, unasked}
 use Rattle.reading.specs.Questions.{total}
 use Rattle.reading.proofs.Spans.{Any}
 use Rattle.reading.proofs.Backticks.{Shows}
@@ -111,7 +111,7 @@ module _ (text : List ℕ) (all : List Line) (i reading : ℕ) (s₀ : State) (q
       subst (λ (s : State). Held Any text v m 0 (begun x v s)) (sym w.same) (line-held text reading q₀ o₀ l₀ all w.asks i w.some here refl)
 
   -- of a sheet that is refused before it nothing changes
-  pub line_refused : (at : Place) → s₀.refused ≡ refused.At at → s₀ ≡ Line-of x v s₀
+  pub line_refused : (at : Place) → s₀.refused ≡ refused.At at → s₀ ≡ line_of x v s₀
   unfolding moved_on
   line_refused at e =
       let out = subst Outside (sym w.same) (lines-outside x (views text (take i all)) start start_outside) at e in
@@ -167,7 +167,7 @@ module _ (text : List ℕ) (all : List Line) (i reading : ℕ) (s₀ : State) (q
         }
 
     -- all steps are behind
-    pub walks-last : left ≤ 0 → StandsFor out q o l (Line-of x v s₀)
+    pub walks-last : left ≤ 0 → StandsFor out q o l (line_of x v s₀)
     walks-last h =
         record {
           same = ap (λ (b : Turn). b.state) (t.same ∙ moment-still x v text m shows a₀ first t.count (omega (arith, h, t.enough)));
@@ -193,17 +193,17 @@ module _ (text : List ℕ) (all : List Line) (i reading : ℕ) (s₀ : State) (q
       r-refused = ap (λ (b : Turn). b.state.refused) there
 
       -- the line is read
-      all_read : steps n x v a ≡ steps n y v a → StandsFor r q' o' l' (Line-of x v s₀)
+      all_read : steps n x v a ≡ steps n y v a → StandsFor r q' o' l' (line_of x v s₀)
       all_read e =
           record {
             same = ap (λ (b : Turn). b.state) (there ∙ sym e ∙ moment-end x v text m shows a₀ first t.count);
             labels = c.labels;
           }
 
-      pub walks-end : r.refused ≡ refused.No → StandsFor r q' o' l' (Line-of x v s₀)
+      pub walks-end : r.refused ≡ refused.No → StandsFor r q' o' l' (line_of x v s₀)
       walks-end e = go done
         where
-          go : Settled x v n a (steps n y v a) → StandsFor r q' o' l' (Line-of x v s₀)
+          go : Settled x v n a (steps n y v a) → StandsFor r q' o' l' (line_of x v s₀)
           go (inl g) = all_read g.same
           go (inr (inl g)) = absurd (met g.at (sym g.refused ∙ sym r-refused ∙ e))
           go (inr (inr g)) = absurd (met g.at (sym g.refused ∙ sym r-refused ∙ e))
@@ -241,10 +241,10 @@ module _ (text : List ℕ) (all : List Line) (i reading : ℕ) (s₀ : State) (q
             }
 
         -- a block stands there
-        pub walks_block : x.block at.0 ≡ true → StandsFor r q' o' l' (Line-of x v s₀)
+        pub walks_block : x.block at.0 ≡ true → StandsFor r q' o' l' (line_of x v s₀)
         walks_block b = go done
           where
-            go : Settled x v n a (steps n y v a) → StandsFor r q' o' l' (Line-of x v s₀)
+            go : Settled x v n a (steps n y v a) → StandsFor r q' o' l' (line_of x v s₀)
             go (inl g) = absurd (met at (sym e ∙ r-refused ∙ g.refused))
             go (inr (inl g)) = all_read g.same
             go (inr (inr g)) = absurd (clash (x.block at.0) b (subst (λ (u : Place). x.block u.0 ≡ false) (at-is g.at g.refused) g.block))

@@ -11,7 +11,7 @@ use Rattle.reading.specs.declared.Line.{Line}
 use Rattle.reading.specs.declared.Refused.{Refused}
 use Rattle.reading.specs.declared.Refused.TheVariants as refused
 use Rattle.reading.specs.Machine.{Sheet, State, Turn, View, view_of}
-use Rattle.reading.specs.Reading.{line as Line-of, lines, read, start, end_of, views, sheet}
+use Rattle.reading.specs.Reading.{line as line_of, lines, read, start, end_of, views, sheet}
 use Rattle.reading.specs.Questions.{total, first_outside, first_early}
 use Rattle.reading.proofs.Braces.{Outside, lines-outside, start_outside}
 use Rattle.reading.proofs.Feeding as feeding
@@ -28,10 +28,10 @@ use Rattle.inline.proofs.Begins.{before-stood, before-few}
 use Rattle.inline.proofs.Turning.{good-opened}
 
 -- one line more
-lines_more : (x : Sheet) (vs : List View) (v : View) (s : State) → lines x (vs ++ v ∷ []) s ≡ Line-of x v (lines x vs s)
+lines_more : (x : Sheet) (vs : List View) (v : View) (s : State) → lines x (vs ++ v ∷ []) s ≡ line_of x v (lines x vs s)
 unfolding lines
 lines_more x [] v s = refl
-lines_more x (u ∷ vs) v s = lines_more x vs v (Line-of x u s)
+lines_more x (u ∷ vs) v s = lines_more x vs v (line_of x u s)
 
 end_more : (ls : List Line) (l : Line) (a : ℕ) → end_of (ls ++ l ∷ []) a ≡ l.end
 unfolding end_of
@@ -97,7 +97,7 @@ module _ (text : List ℕ) (ls : List Line) (reading : ℕ) (q₀ o₀ l₀ : Li
       more = take-suc ls i none some
 
       -- what it gives
-      pub head-next : (r : Parser) (q' o' l' : List ℕ) → StandsFor r q' o' l' (Line-of (sheet text ls reading (length l)) (view_of text here) (stands p q o l))
+      pub head-next : (r : Parser) (q' o' l' : List ℕ) → StandsFor r q' o' l' (line_of (sheet text ls reading (length l)) (view_of text here) (stands p q o l))
           → length q' ≡ length q → length o' ≡ length o → length l' ≡ length l → (b : ℕ) → b ≡ here.end → Head text ls reading q₀ o₀ l₀ q' o' l' r b (i + 1)
       head-next r q' o' l' st lq lo ll b isb =
           rw (add-one i)
@@ -105,8 +105,8 @@ module _ (text : List ℕ) (ls : List Line) (reading : ℕ) (q₀ o₀ l₀ : Li
             inside = omega arith;
             same =
                 st.same
-                ∙ ap (λ (n : ℕ). Line-of (sheet text ls reading n) (view_of text here) (stands p q o l)) h.long_l
-                ∙ ap (λ (s : State). Line-of x (view_of text here) s) h.same
+                ∙ ap (λ (n : ℕ). line_of (sheet text ls reading n) (view_of text here) (stands p q o l)) h.long_l
+                ∙ ap (λ (s : State). line_of x (view_of text here) s) h.same
                 ∙ sym (lines_more x (views text (take i ls)) (view_of text here) start)
                 ∙ ap (λ (vs : List View). lines x vs start) (sym (map-append (view_of text) (take i ls) (here ∷ [])))
                 ∙ ap (λ (ms : List Line). lines x (views text ms) start) (sym more);

@@ -1,7 +1,7 @@
 -- `containers::closes_span` meets its contract, by the laws of `Closing`.
 use mathlib.Core.Path.{ap, ◌∙◌}
 use native.Mathlib.Omega.{arith}
-use Rattle.reading.specs.Containers.{takes as Takes-of, takes}
+use Rattle.reading.specs.Containers.{takes as takes_of, takes}
 use Rattle.rooms.proofs.Changing.{changed-openers}
 use Rattle.rooms.proofs.Rows.{stack-length}
 use Rattle.rooms.specs.Records.{opener_at}
@@ -37,13 +37,13 @@ pub returns-in_default-takes : goal.returns-in_default-takes
 returns-in_default-takes c = span-alone c.args.m c.args.line.now c.args.h c.args.image c.args.o c.args.p
     c.args.queue.now c.args.openers.now c.peek_token-ahead.result c.peek_token-ahead.ensures c.moved.result
     c.moved.ensures c.put-out.result c.put-out.new.queue c.put-out.ensures _ c.in-Some.is _
-    (c.takes.ensures ∙ ap (λ (x : Role). taken_as (Takes-of x)) c.role_of.ensures) c.in_default-takes.is
+    (c.takes.ensures ∙ ap (λ (x : Role). taken_as (takes_of x)) c.role_of.ensures) c.in_default-takes.is
 
 pub overflow_add-bracket : goal.overflow_add-bracket
 overflow_add-bracket c = let w = span-within c.args.m c.args.line.now c.args.h c.args.image c.args.o c.args.p
     c.args.queue.now c.args.openers.now c.peek_token-ahead.result c.peek_token-ahead.ensures c.moved.result
     c.moved.ensures c.put-out.result c.put-out.new.queue c.put-out.ensures _ c.in-Some.is _
-    (c.takes.ensures ∙ ap (λ (x : Role). taken_as (Takes-of x)) c.role_of.ensures) c.requires.ready.sound
+    (c.takes.ensures ∙ ap (λ (x : Role). taken_as (takes_of x)) c.role_of.ensures) c.requires.ready.sound
     c.requires.ready.place in
     omega (arith, w.1, c.requires.ready.small)
 
@@ -51,7 +51,7 @@ pub takes_along-requires : goal.takes_along-requires
 takes_along-requires c = let w = span-within c.args.m c.args.line.now c.args.h c.args.image c.args.o c.args.p
     c.args.queue.now c.args.openers.now c.peek_token-ahead.result c.peek_token-ahead.ensures c.moved.result
     c.moved.ensures c.put-out.result c.put-out.new.queue c.put-out.ensures _ c.in-Some.is _
-    (c.takes.ensures ∙ ap (λ (x : Role). taken_as (Takes-of x)) c.role_of.ensures) c.requires.ready.sound
+    (c.takes.ensures ∙ ap (λ (x : Role). taken_as (takes_of x)) c.role_of.ensures) c.requires.ready.sound
     c.requires.ready.place in
     let n = span-events c.args.m c.args.line.now c.args.h c.args.image c.args.o c.args.p c.args.queue.now
     c.args.openers.now c.peek_token-ahead.result c.peek_token-ahead.ensures c.moved.result c.moved.ensures
@@ -85,6 +85,6 @@ pub returns : goal.returns
 returns c = span-along c.args.m c.args.line.now c.args.h c.args.image c.args.o c.args.p c.args.queue.now
     c.args.openers.now c.peek_token-ahead.result c.peek_token-ahead.ensures c.moved.result c.moved.ensures
     c.put-out.result c.put-out.new.queue c.put-out.ensures _ c.in-Some.is _
-    (c.takes.ensures ∙ ap (λ (x : Role). taken_as (Takes-of x)) c.role_of.ensures) _ c.in-Along.is
+    (c.takes.ensures ∙ ap (λ (x : Role). taken_as (takes_of x)) c.role_of.ensures) _ c.in-Along.is
     c.link_sort.result c.link_sort.ensures c.takes_along.result c.takes_along.new.queue
     c.takes_along.new.openers c.takes_along.ensures
