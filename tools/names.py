@@ -3,7 +3,7 @@
 tools, the comparison, the benchmark or the interface. Every crate stands in README.md, and every must-fail edit in docs/THEOREMS.md. Status 1 if not.
 
 What is no single word (a sheet, a command, a piece of code) is passed over, and so is docs/DIFFERENCES.md, where nearly all that stands in backticks
-is a sheet. In docs/CHANGES.md and docs/REVIEW.md, which tell what was, a name may stand in its older spelling (`event-numbers`, `standsIn`). Names of
+is a sheet. In docs/CHANGES.md, docs/PORT.md and docs/REVIEW.md, which tell what was, a name may stand in its older spelling (`event-numbers`, `standsIn`). Names of
 the source and names that are gone, and are said to be, stand below."""
 import glob
 import os
@@ -14,10 +14,11 @@ import sys
 # of the Rust, of the toolchain, of what is built, of the README's snippets and the example in docs/PROVING.md
 OUTSIDE = set("""some_of upto_some crates/scan/proofs/upto_some/Answers.antt rattle-kit-13f grind libexports.a cmp lex.rs inline.rs attr.rs
     is_ascii_whitespace set_current_line VecDeque memset perf ../shared/docs crates/door/src/main.rt target/staticlib/libmivurakol.a""".split())
-# gone, or under another name now, and said to be: in docs/CHANGES.md and docs/REVIEW.md
+# gone, or under another name now, and said to be: in docs/CHANGES.md, docs/PORT.md and docs/REVIEW.md
 GONE = set("""Shelved shelved Shelf Shelves Shelving shelve roomy pour pile Bits Telling reader/specs/Asking classes/special_bit_lost
-    lexer/line_in_verbatim later_as_str reading/event_too_many Hidden proofs/Twin/""".split())
-HISTORY = ["docs/CHANGES.md", "docs/REVIEW.md"]
+    lexer/line_in_verbatim later_as_str reading/event_too_many Hidden proofs/Twin/ proofs/Twin twin.txt Proof.antt libc Line-of fact_2 labels_after
+    out_after""".split())
+HISTORY = ["docs/CHANGES.md", "docs/PORT.md", "docs/REVIEW.md"]
 FOLDERS = ["", "crates/", "crates/*/", "crates/*/*/", "crates/*/*/*/", "tools/"]
 PLACES = ["crates", "tools", "compare", "bench", "interface", "sheet", "tokens", "crates.txt", ".ci"]
 
