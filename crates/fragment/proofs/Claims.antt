@@ -17,16 +17,16 @@ use Rattle.reading.specs.Machine.{Sheet, State}
 use Rattle.reading.specs.Draining.{drain}
 use Rattle.reading.specs.Reading.{sheet, read, end_of}
 use Rattle.reading.specs.Questions.{Rooms, Outcome, total, label_room, numbers, filled, cleared, handed_out, outcome, judged as judged-reader}
-use Rattle.reading.specs.Walked.{Whole, events}
+use Rattle.reading.specs.Walked.{Whole, AcceptedHomes, events}
 use Rattle.reading.proofs.Choose.{choose, choose₂}
-use Rattle.reading.proofs.Answers.{asks, accepted, never-nine, short}
+use Rattle.reading.proofs.Answers.{asks, accepted, homed, never-nine, short}
 use Rattle.outcome.specs.Outcomes.{rooms_of, outcome_of}
 use Rattle.listing.specs.Listing.{listed}
 use Rattle.listing.proofs.Listed.{listed-numbers, numbers-length}
 use Rattle.markup.specs.Markup.{fragment}
 use Rattle.markup.proofs.Lengths.{fragment-short}
 use Rattle.markup.proofs.Faithful.{faithful}
-use Rattle.verdict.specs.Fragments.{first_barred, Fragmented, acceptance, refuses, judged, enough, behind, fragmented, Shows}
+use Rattle.verdict.specs.Fragments.{first_barred, Fragmented, acceptance, refuses, judged, enough, behind, fragmented, read_of, Shows}
 use Rattle.verdict.specs.Judging.{Listed}
 
 abbrev Few : Outcome → Type 0
@@ -148,6 +148,14 @@ module _ (text : List ℕ) (ls : List Line) (reading : ℕ) (rooms : Rooms) wher
           let k = accepted text ls reading rooms z in
           record { accepted = record { whole = k.whole; count = k.count; handed = k.handed }; faithful = faithful text es k.whole.walked }
 
+  -- and each event has the home and the link number that its kind has
+  homed-so : (out : List ℕ) (f : Fragmented) → f ≡ fragmented text ls reading rooms out → f.answer.code ≡ 0
+      → AcceptedHomes text ls reading rooms (read_of f)
+  homed-so out f is = subst Claim (sym is) (by_answer out Claim (λ n e. absurd (n e)) (λ z. by-room Claim (first_barred es) (fragment text es) rooms o out (λ at e. absurd (omega (arith, e))) (λ l e. absurd (omega (arith, e))) (λ l e. record { homes = (homed text ls reading rooms z).homes })))
+    where
+      Claim : Fragmented → Type 0
+      Claim f = f.answer.code ≡ 0 → AcceptedHomes text ls reading rooms (read_of f)
+
   -- whoever lends N + 1 event records is never refused for event room
   no_nine : (out : List ℕ) (f : Fragmented) → f ≡ fragmented text ls reading rooms out → total ls + 1 ≤ length rooms.events / event_numbers → f.answer.code ≡ 9 → ⊥
   no_nine out f is lends = subst Other (sym is) (by_answer out Other (λ n e. never-nine text ls reading rooms lends e) (λ z. by-room Other (first_barred es) (fragment text es) rooms o out (λ at e. omega (arith, e)) (λ l e. omega (arith, e)) (λ l e. omega (arith, e))))
@@ -174,9 +182,10 @@ module _ (text : List ℕ) (ls : List Line) (reading : ℕ) (e q p l : List ℕ)
   pub called : (out : List ℕ) (f : Fragmented) → f ≡ behind text (listed a.events e') (rooms_of e' q' p' l') (outcome_of a e' q' p' l') out
       → (f ≡ fragmented text ls reading (rooms_of e q p l) out)
       × ((f.answer.code ≡ 0 → Shows text ls reading (rooms_of e q p l) f)
+      × ((f.answer.code ≡ 0 → AcceptedHomes text ls reading (rooms_of e q p l) (read_of f))
       × ((total ls + 1 ≤ length e / event_numbers → f.answer.code ≡ 9 → ⊥)
-      × (enough ls ≤ length out → f.answer.code ≡ 11 → ⊥)))
+      × (enough ls ≤ length out → f.answer.code ≡ 11 → ⊥))))
   called out f h =
       let same = cleared-alike e q p l e' q' p' l' sizes.0 sizes.1 sizes.2 sizes.3 in
       let so = comes-to text ls reading (rooms_of e q p l) a e' q' p' l' is out f same h in
-      (so, (shows text ls reading (rooms_of e q p l) out f so, (no_nine text ls reading (rooms_of e q p l) out f so, no-eleven text ls reading (rooms_of e q p l) out f so)))
+      (so, (shows text ls reading (rooms_of e q p l) out f so, (homed-so text ls reading (rooms_of e q p l) out f so, (no_nine text ls reading (rooms_of e q p l) out f so, no-eleven text ls reading (rooms_of e q p l) out f so))))

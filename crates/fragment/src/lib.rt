@@ -3,8 +3,9 @@
 ghost use Rattle.std.specs.Prelude.{◌≡◌, ◌+◌, ◌/◌, ◌≤◌, length};
 ghost use Rattle.reading.specs.Events.{event_numbers};
 ghost use Rattle.reading.specs.Questions.{total};
+ghost use Rattle.reading.specs.Walked.{AcceptedHomes};
 ghost use Rattle.outcome.specs.Outcomes.{rooms_of};
-ghost use Rattle.verdict.specs.Fragments.{fragmented_of, fragmented, Shows, enough};
+ghost use Rattle.verdict.specs.Fragments.{fragmented_of, fragmented, read_of, Shows, enough};
 
 use reading::{Answer, Line};
 use verdict::FragmentAnswer;
@@ -24,6 +25,8 @@ pub fn write(
         text.now lines.now reading (rooms_of events.old queue.old openers.old labels.old) out.old }
     ensures shows { result.code ≡ 0 → Shows text.now lines.now reading (rooms_of events.old queue.old openers.old labels.old) (fragmented_of result (rooms_of events.new queue.new openers.new labels.new)
         out.new) }
+    ensures homed { result.code ≡ 0 → AcceptedHomes text.now lines.now reading (rooms_of events.old queue.old openers.old labels.old) (read_of (fragmented_of result (rooms_of events.new queue.new openers.new labels.new)
+        out.new)) }
     ensures events_suffice { total lines.now + 1 ≤ length events.old / event_numbers → result.code ≡ 9 → ⊥ }
     ensures output_suffices { enough lines.now ≤ length out.old → result.code ≡ 11 → ⊥ }
 {

@@ -6,7 +6,7 @@ ghost use Rattle.lex.specs.Lexer.{fresh_of, next_of, peek_of};
 
 use lex::{Cursor, Lexed};
 
-#[derive(Drop)]
+#[derive(Clone, Copy)]
 pub struct Lexer<'s> {
     pub src: &'s [u8],
     pub cursor: Cursor,

@@ -1,4 +1,4 @@
--- `fragment::write` meets its contract: the reader's outcome, what comes of it, and what is claimed. The borrow checker's part comes from a twin (`Twin`).
+-- `fragment::write` meets its contract: the reader's outcome, what comes of it, and what is claimed.
 use Rattle.outcome.specs.Outcomes.{rooms_of}
 use Rattle.fragment.proofs.Claims.{listed-asked, called}
 use Rattle.fragment.proofs.write.Goals as goal
@@ -17,6 +17,7 @@ returns c = let all = called c.args.text.now c.args.lines.now c.args.reading c.a
     c.conclude.ensures in record {
       as_defined = all.0;
       shows = all.1.0;
-      events_suffice = all.1.1.0;
-      output_suffices = all.1.1.1;
+      homed = all.1.1.0;
+      events_suffice = all.1.1.1.0;
+      output_suffices = all.1.1.1.1;
     }
