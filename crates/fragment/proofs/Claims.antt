@@ -136,25 +136,25 @@ module _ (text : List ℕ) (ls : List Line) (reading : ℕ) (rooms : Rooms) wher
   by_answer out P early late =
       choose P (eqb o.answer.code 0) _ _ (λ c. late (eqb-true o.answer.code 0 c)) (λ c. early (eqb-false o.answer.code 0 c))
 
-  -- of an accepted call: demand 3, and a fragment that is faithful
-  shows : (out : List ℕ) (f : Fragmented) → f ≡ fragmented text ls reading rooms out → f.answer.code ≡ 0 → Shows text ls reading rooms f
-  shows out f is = subst Claim (sym is) (by_answer out Claim (λ n e. absurd (n e)) (λ z. by-room Claim (first_barred es) (fragment text es) rooms o out (λ at e. absurd (omega (arith, e))) (λ l e. absurd (omega (arith, e))) (λ l e. claim z)))
+  -- what holds of a fragment that is written holds of every call that is answered 0
+  by-accepted : (out : List ℕ) (P : Fragmented → Type 0)
+      → (o.answer.code ≡ 0 → P (record { answer = acceptance o.answer (length (fragment text es)); rooms = o.rooms; out = filled (fragment text es) out }))
+      → (f : Fragmented) → f ≡ fragmented text ls reading rooms out → f.answer.code ≡ 0 → P f
+  by-accepted out P written f is = subst Claim (sym is) (by_answer out Claim (λ n e. absurd (n e)) (λ z. by-room Claim (first_barred es) (fragment text es) rooms o out (λ at e. absurd (omega (arith, e))) (λ l e. absurd (omega (arith, e))) (λ l e. written z)))
     where
       Claim : Fragmented → Type 0
-      Claim f = f.answer.code ≡ 0 → Shows text ls reading rooms f
+      Claim f = f.answer.code ≡ 0 → P f
 
-      claim : o.answer.code ≡ 0 → Shows text ls reading rooms (record { answer = acceptance o.answer (length (fragment text es)); rooms = o.rooms; out = filled (fragment text es) out })
-      claim z =
-          let k = accepted text ls reading rooms z in
-          record { accepted = record { whole = k.whole; count = k.count; handed = k.handed }; faithful = faithful text es k.whole.walked }
+  -- demand 3, and a fragment that is faithful
+  shows : (out : List ℕ) (f : Fragmented) → f ≡ fragmented text ls reading rooms out → f.answer.code ≡ 0 → Shows text ls reading rooms f
+  shows out = by-accepted out (Shows text ls reading rooms)
+      (λ z. let k = accepted text ls reading rooms z in
+      record { accepted = record { whole = k.whole; count = k.count; handed = k.handed }; faithful = faithful text es k.whole.walked })
 
   -- and each event has the home and the link number that its kind has
   homed-so : (out : List ℕ) (f : Fragmented) → f ≡ fragmented text ls reading rooms out → f.answer.code ≡ 0
       → AcceptedHomes text ls reading rooms (read_of f)
-  homed-so out f is = subst Claim (sym is) (by_answer out Claim (λ n e. absurd (n e)) (λ z. by-room Claim (first_barred es) (fragment text es) rooms o out (λ at e. absurd (omega (arith, e))) (λ l e. absurd (omega (arith, e))) (λ l e. record { homes = (homed text ls reading rooms z).homes })))
-    where
-      Claim : Fragmented → Type 0
-      Claim f = f.answer.code ≡ 0 → AcceptedHomes text ls reading rooms (read_of f)
+  homed-so out = by-accepted out (λ f. AcceptedHomes text ls reading rooms (read_of f)) (λ z. record { homes = (homed text ls reading rooms z).homes })
 
   -- whoever lends N + 1 event records is never refused for event room
   no_nine : (out : List ℕ) (f : Fragmented) → f ≡ fragmented text ls reading rooms out → total ls + 1 ≤ length rooms.events / event_numbers → f.answer.code ≡ 9 → ⊥
