@@ -3,7 +3,7 @@
 tools, the comparison, the benchmark or the interface. Every crate stands in README.md, and every must-fail edit in docs/THEOREMS.md. Status 1 if not.
 
 What is no single word (a sheet, a command, a piece of code) is passed over, and so is docs/DIFFERENCES.md, where nearly all that stands in backticks
-is a sheet. In docs/CHANGES.md, docs/PORT.md and docs/REVIEW.md, which tell what was, a name may stand in its older spelling (`event-numbers`, `standsIn`). Names of
+is a sheet, and docs/DESIGN-PASS.md, which sets old names beside new ones. In docs/CHANGES.md, docs/PORT.md and docs/REVIEW.md, which tell what was, a name may stand in its older spelling (`event-numbers`, `standsIn`). Names of
 the source and names that are gone, and are said to be, stand below."""
 import glob
 import os
@@ -18,6 +18,12 @@ OUTSIDE = set("""some_of upto_some crates/scan/proofs/upto_some/Answers.antt rat
 GONE = set("""Shelved shelved Shelf Shelves Shelving shelve roomy pour pile Bits Telling reader/specs/Asking classes/special_bit_lost
     lexer/line_in_verbatim later_as_str reading/event_too_many Hidden proofs/Twin/ proofs/Twin twin.txt Proof.antt libc Line-of fact_2 labels_after
     out_after""".split())
+# gone by the design pass: its page names them, and what states their promise now
+if os.path.exists("docs/DESIGN-PASS.md"):
+    page = open("docs/DESIGN-PASS.md").read()
+    GONE |= set(re.findall(r"`([^`\n]+)`", page)) | {n for pair in re.findall(r"`(\w+::\w+)`", page) for n in [pair, pair.split("::")[1]]}
+    GONE |= set("""reader::counted reader::conclude records/lines_unasked inline/gap_fed rooms::moved rooms::unrefused drainedAs Drained
+        c.if-n-eq0.true shared_slice_known-1 page::page_lines""".split())
 HISTORY = ["docs/CHANGES.md", "docs/PORT.md", "docs/REVIEW.md"]
 FOLDERS = ["", "crates/", "crates/*/", "crates/*/*/", "crates/*/*/*/", "tools/"]
 PLACES = ["crates", "tools", "compare", "bench", "interface", "sheet", "tokens", "crates.txt", ".ci"]
@@ -52,6 +58,8 @@ def respelled(name):
 
 names, lost = 0, []
 for doc in ["README.md"] + sorted(glob.glob("docs/*.md")):
+    if doc == "docs/DESIGN-PASS.md":
+        continue
     prose = re.sub(r"^```.*?^```$", "", open(doc).read(), flags=re.S | re.M)
     prose = "\n".join(line for line in prose.split("\n") if not line.startswith("    "))
     for path in re.findall(r"(?<!\w)(?:docs|tools|crates)/[\w./-]+\w", prose):

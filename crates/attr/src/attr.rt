@@ -1,6 +1,5 @@
 // The attribute validator of `attr.rs`: the states, a step over one byte, and a validator that is fed bytes.
 ghost use Rattle.std.specs.Prelude.{◌≡◌};
-ghost use Rattle.classes.specs.Classes.{Ruled};
 ghost use Rattle.attr.specs.Attributes.{name, opening, parts, comment, first, rest, key, value, quoted, escaped, continued};
 ghost use Rattle.attr.specs.Attributes.{step, fed, is_done, is_decided};
 
@@ -23,20 +22,17 @@ impl Validator {
     }
 
     // Goes on over some bytes, up to the first that decides.
-    pub fn parse(self, input: &[u8], flags: &[u8; 256]) -> Validator
-        requires { Ruled flags.now }
+    pub fn parse(self, input: &[u8]) -> Validator
         ensures { result ≡ record { state = fed input.now self.state } }
     {
         let mut state = self.state;
-        let mut n = 0;
-        while n < input.len() {
+        for c in input {
             if state.decided() {
-                return Validator { state: state };
+                return Validator { state };
             }
-            state = state.step(input[n], flags);
-            n += 1;
+            state = state.step(*c);
         }
-        Validator { state: state }
+        Validator { state }
     }
 
     // No later byte changes it.
@@ -48,14 +44,11 @@ impl Validator {
     }
 
     // An attribute block stands there.
+    #[tactic(auto, unfolding(crate::specs::Attributes::is_done))]
     pub fn done(self) -> bool
         ensures { result ≡ is_done self.state }
     {
-        let state = self.state;
-        match state {
-            State::Done => true,
-            _ => false,
-        }
+        matches!(self.state, State::Done)
     }
 }
 
@@ -83,19 +76,19 @@ pub enum State {
 
 impl State {
     // One byte. Where the source panics, what is decided stays so.
-    fn step(self, c: u8, flags: &[u8; 256]) -> State
-        requires { Ruled flags.now }
+    #[tactic(auto, unfolding(crate::specs::Attributes::step))]
+    fn step(self, c: u8) -> State
         ensures { result ≡ step self c }
     {
         match self {
             State::Start => opening(c),
-            State::Whitespace => parts(c, flags),
+            State::Whitespace => parts(c),
             State::CommentFirst | State::Comment | State::CommentNewline => comment(c),
-            State::ClassFirst => first(State::Class, c, flags),
-            State::IdentifierFirst => first(State::Identifier, c, flags),
-            State::Class | State::Identifier | State::Value => rest(self, c, flags),
-            State::Key => key(c, flags),
-            State::ValueFirst => value(c, flags),
+            State::ClassFirst => first(State::Class, c),
+            State::IdentifierFirst => first(State::Identifier, c),
+            State::Class | State::Identifier | State::Value => rest(self, c),
+            State::Key => key(c),
+            State::ValueFirst => value(c),
             State::ValueQuoted => quoted(c),
             State::ValueEscape => escaped(c),
             State::ValueNewline | State::ValueContinued => continued(c),
@@ -103,163 +96,135 @@ impl State {
         }
     }
 
+    #[tactic(auto, unfolding(crate::specs::Attributes::is_decided))]
     fn decided(self) -> bool
         ensures { result ≡ is_decided self }
     {
-        match self {
-            State::Done | State::Invalid => true,
-            _ => false,
-        }
+        matches!(self, State::Done | State::Invalid)
     }
 }
 
 // The brace.
+#[tactic(auto, unfolding(crate::specs::Attributes::by))]
 fn opening(c: u8) -> State
     ensures { result ≡ opening c }
 {
-    if c == b'{' {
-        return State::Whitespace;
+    match c {
+        b'{' => State::Whitespace,
+        _ => State::Invalid,
     }
-    State::Invalid
 }
 
 // Between two parts.
-fn parts(c: u8, flags: &[u8; 256]) -> State
-    requires { Ruled flags.now }
+#[tactic(auto, unfolding(crate::specs::Attributes::by))]
+fn parts(c: u8) -> State
     ensures { result ≡ parts c }
 {
-    if c == b'}' {
-        return Validator::DONE;
+    match c {
+        b'}' => Validator::DONE,
+        b'.' => State::ClassFirst,
+        b'#' => State::IdentifierFirst,
+        b'%' => State::CommentFirst,
+        _ if is_name(c) => State::Key,
+        _ if classes::is_blank(c) => State::Whitespace,
+        _ => State::Invalid,
     }
-    if c == b'.' {
-        return State::ClassFirst;
-    }
-    if c == b'#' {
-        return State::IdentifierFirst;
-    }
-    if c == b'%' {
-        return State::CommentFirst;
-    }
-    if is_name(c, flags) {
-        return State::Key;
-    }
-    if classes::is_blank(c, flags) {
-        return State::Whitespace;
-    }
-    State::Invalid
 }
 
+#[tactic(auto, unfolding(crate::specs::Attributes::by))]
 fn comment(c: u8) -> State
     ensures { result ≡ comment c }
 {
-    if c == b'%' {
-        return State::Whitespace;
+    match c {
+        b'%' => State::Whitespace,
+        b'}' => Validator::DONE,
+        b'\n' => State::CommentNewline,
+        _ => State::Comment,
     }
-    if c == b'}' {
-        return Validator::DONE;
-    }
-    if c == b'\n' {
-        return State::CommentNewline;
-    }
-    State::Comment
 }
 
 // The first byte of a name.
-fn first(s: State, c: u8, flags: &[u8; 256]) -> State
-    requires { Ruled flags.now }
+#[tactic(auto, unfolding(crate::specs::Attributes::by))]
+fn first(s: State, c: u8) -> State
     ensures { result ≡ first s c }
 {
-    if is_name(c, flags) {
-        return s;
-    }
-    State::Invalid
+    if is_name(c) { s } else { State::Invalid }
 }
 
 // A later byte of a name that a blank or the block's end may follow.
-fn rest(s: State, c: u8, flags: &[u8; 256]) -> State
-    requires { Ruled flags.now }
+#[tactic(auto, unfolding(crate::specs::Attributes::by))]
+fn rest(s: State, c: u8) -> State
     ensures { result ≡ rest s c }
 {
-    if is_name(c, flags) {
-        return s;
+    match c {
+        _ if is_name(c) => s,
+        _ if classes::is_blank(c) => State::Whitespace,
+        b'}' => Validator::DONE,
+        _ => State::Invalid,
     }
-    if classes::is_blank(c, flags) {
-        return State::Whitespace;
-    }
-    if c == b'}' {
-        return Validator::DONE;
-    }
-    State::Invalid
 }
 
-fn key(c: u8, flags: &[u8; 256]) -> State
-    requires { Ruled flags.now }
+#[tactic(auto, unfolding(crate::specs::Attributes::by))]
+fn key(c: u8) -> State
     ensures { result ≡ key c }
 {
-    if is_name(c, flags) {
-        return State::Key;
+    match c {
+        _ if is_name(c) => State::Key,
+        b'=' => State::ValueFirst,
+        _ => State::Invalid,
     }
-    if c == b'=' {
-        return State::ValueFirst;
-    }
-    State::Invalid
 }
 
-fn value(c: u8, flags: &[u8; 256]) -> State
-    requires { Ruled flags.now }
+#[tactic(auto, unfolding(crate::specs::Attributes::by))]
+fn value(c: u8) -> State
     ensures { result ≡ value c }
 {
-    if is_name(c, flags) {
-        return State::Value;
+    match c {
+        _ if is_name(c) => State::Value,
+        b'"' => State::ValueQuoted,
+        _ => State::Invalid,
     }
-    if c == b'"' {
-        return State::ValueQuoted;
-    }
-    State::Invalid
 }
 
 // In quotes, on the line they opened on.
+#[tactic(auto, unfolding(crate::specs::Attributes::by))]
 fn quoted(c: u8) -> State
     ensures { result ≡ quoted c }
 {
-    if c == b'"' {
-        return State::Whitespace;
+    match c {
+        b'"' => State::Whitespace,
+        b'\n' => State::ValueNewline,
+        b'\\' => State::ValueEscape,
+        _ => State::ValueQuoted,
     }
-    if c == b'\n' {
-        return State::ValueNewline;
-    }
-    if c == b'\\' {
-        return State::ValueEscape;
-    }
-    State::ValueQuoted
 }
 
 // Behind a backslash there.
+#[tactic(auto, unfolding(crate::specs::Attributes::by))]
 fn escaped(c: u8) -> State
     ensures { result ≡ escaped c }
 {
-    if c == b'\n' {
-        return State::ValueNewline;
+    match c {
+        b'\n' => State::ValueNewline,
+        _ => State::ValueQuoted,
     }
-    State::ValueQuoted
 }
 
 // On a later line.
+#[tactic(auto, unfolding(crate::specs::Attributes::by))]
 fn continued(c: u8) -> State
     ensures { result ≡ continued c }
 {
-    if c == b'"' {
-        return State::Whitespace;
+    match c {
+        b'"' => State::Whitespace,
+        b'\n' => State::ValueNewline,
+        _ => State::ValueContinued,
     }
-    if c == b'\n' {
-        return State::ValueNewline;
-    }
-    State::ValueContinued
 }
 
-fn is_name(c: u8, flags: &[u8; 256]) -> bool
-    requires { Ruled flags.now }
+#[tactic(auto, unfolding(crate::specs::Attributes::name, classes::specs::Classes::bytes, classes::specs::Classes::among))]
+fn is_name(c: u8) -> bool
     ensures { result ≡ name c }
 {
-    classes::is_alphanumeric(c, flags) | (c == b':') | (c == b'_') | (c == b'-')
+    classes::is_alphanumeric(c) | matches!(c, b':' | b'_' | b'-')
 }

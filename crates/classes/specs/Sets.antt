@@ -1,5 +1,6 @@
 -- Runs of bytes of one set: what the lexer's text and the scans ahead go over (document 01, "Lexer" and "Scans ahead").
-use Rattle.std.specs.Prelude.{ℕ, suc, List, [], ◌∷◌, Bool, true, false, not, ◌||◌}
+use Rattle.std.specs.Prelude.{ℕ, List, Bool, not, ◌||◌, length}
+use Rattle.std.specs.List.{take_while}
 use Rattle.classes.specs.declared.Set.{Set}
 use Rattle.classes.specs.declared.Set.TheVariants.{Plain, SpaceTab, Address, Unmarked, Name, Label, Format}
 use Rattle.classes.specs.Classes.{bytes, among, special, blank, alphanumeric}
@@ -23,5 +24,4 @@ in_set Format b = not (among (bytes "{}") b || blank b)
 
 -- how many bytes at the front are of a set
 unfoldable pub run : (ℕ → Bool) → List ℕ → ℕ
-run p [] = 0
-run p (b ∷ bs) = elim (p b) [ true ↦ suc (run p bs) | false ↦ 0 ]
+run p s = length (take_while p s)

@@ -1,13 +1,12 @@
 #![tactic(auto)]
-// Byte classes, and runs of bytes of one set. Special, blank, punctuation and alphanumeric are read from one table. An array constant is laid out
-// where it is used, so whoever reads lays it out once (`classes`) and lends it down.
+// Byte classes, and runs of bytes of one set. Special, blank, punctuation and alphanumeric are read from one table.
 mod table;
 
 ghost use Rattle.std.specs.Prelude.{◌≡◌, ◌<◌, eqb};
-ghost use Rattle.classes.specs.Classes.{blank, alphanumeric, punctuation, flagged, Ruled};
+ghost use Rattle.classes.specs.Classes.{blank, alphanumeric, punctuation, flagged};
 ghost use Rattle.classes.specs.Sets.{in_set, run};
 
-pub use table::classes;
+use table::class_of;
 
 const SPECIAL: u8 = 1;
 
@@ -37,95 +36,73 @@ pub enum Set {
 }
 
 // One flag of a byte, from the table.
-fn has(b: u8, flag: u8, flags: &[u8; 256]) -> bool
-    requires ruled { Ruled flags.now }
-    requires flag_nonzero { 0 < flag }
+fn has(b: u8, flag: u8) -> bool
+    requires { 0 < flag }
     ensures { result ≡ flagged flag b }
 {
-    flags[b as usize] / flag % 2 == 1
+    class_of(b) / flag % 2 == 1
 }
 
-pub fn is_blank(b: u8, flags: &[u8; 256]) -> bool
-    requires { Ruled flags.now }
+pub fn is_blank(b: u8) -> bool
     ensures { result ≡ blank b }
 {
-    has(b, BLANK, flags)
+    has(b, BLANK)
 }
 
-pub fn is_punctuation(b: u8, flags: &[u8; 256]) -> bool
-    requires { Ruled flags.now }
+pub fn is_punctuation(b: u8) -> bool
     ensures { result ≡ punctuation b }
 {
-    has(b, PUNCTUATION, flags)
+    has(b, PUNCTUATION)
 }
 
-pub fn is_alphanumeric(b: u8, flags: &[u8; 256]) -> bool
-    requires { Ruled flags.now }
+pub fn is_alphanumeric(b: u8) -> bool
     ensures { result ≡ alphanumeric b }
 {
-    has(b, ALPHANUMERIC, flags)
+    has(b, ALPHANUMERIC)
+}
+
+// Text.
+fn is_plain(b: u8) -> bool
+    ensures { result ≡ in_set Set.Plain b }
+{
+    !has(b, SPECIAL)
 }
 
 // A byte of a set.
-fn within(b: u8, set: Set, flags: &[u8; 256]) -> bool
-    requires { Ruled flags.now }
+fn within(b: u8, set: Set) -> bool
     ensures { result ≡ in_set set b }
 {
     match set {
-        Set::Plain => !has(b, SPECIAL, flags),
+        Set::Plain => is_plain(b),
         Set::SpaceTab => (b == b' ') | (b == b'\t'),
-        Set::Address => !((b == b'<') | (b == b'>') | has(b, BLANK, flags)),
-        Set::Unmarked => !((b == b'<')
-            | (b == b'>')
-            | (b == b':')
-            | (b == b'@')
-            | has(b, BLANK, flags)),
-        Set::Name => (b == b'-') | (b == b'+') | (b == b'_') | has(b, ALPHANUMERIC, flags),
+        Set::Address => !((b == b'<') | (b == b'>') | has(b, BLANK)),
+        Set::Unmarked => !((b == b'<') | (b == b'>') | (b == b':') | (b == b'@') | has(b, BLANK)),
+        Set::Name => (b == b'-') | (b == b'+') | (b == b'_') | has(b, ALPHANUMERIC),
         Set::Label => !((b == b'[') | (b == b']') | (b == b'\n')),
-        Set::Format => !((b == b'{') | (b == b'}') | has(b, BLANK, flags)),
+        Set::Format => !((b == b'{') | (b == b'}') | has(b, BLANK)),
     }
 }
 
 // How many bytes at the front are text.
-pub fn eat_plain(s: &[u8], flags: &[u8; 256]) -> usize
-    requires { Ruled flags.now }
+#[tactic(auto, unfolding(crate::specs::Sets::run))]
+pub fn eat_plain(s: &[u8]) -> usize
     ensures { result ≡ run (in_set Set.Plain) s.now }
 {
-    let mut n = 0;
-    while n < s.len() {
-        if has(s[n], SPECIAL, flags) {
-            return n;
-        }
-        n += 1;
-    }
-    n
+    s.iter().take_while(|b| is_plain(**b)).count()
 }
 
 // How many bytes at the front are of a set.
-pub fn eat_while(s: &[u8], set: Set, flags: &[u8; 256]) -> usize
-    requires { Ruled flags.now }
+#[tactic(auto, unfolding(crate::specs::Sets::run))]
+pub fn eat_while(s: &[u8], set: Set) -> usize
     ensures { result ≡ run (in_set set) s.now }
 {
-    let mut n = 0;
-    while n < s.len() {
-        if !within(s[n], set, flags) {
-            return n;
-        }
-        n += 1;
-    }
-    n
+    s.iter().take_while(|b| within(**b, set)).count()
 }
 
 // How many bytes at the front are one byte.
+#[tactic(auto, unfolding(crate::specs::Sets::run))]
 pub fn eat_seq(s: &[u8], ch: u8) -> usize
     ensures { result ≡ run (eqb ch) s.now }
 {
-    let mut n = 0;
-    while n < s.len() {
-        if s[n] != ch {
-            return n;
-        }
-        n += 1;
-    }
-    n
+    s.iter().take_while(|b| ch == **b).count()
 }

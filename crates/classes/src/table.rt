@@ -1,5 +1,6 @@
 // The flags of each byte, from 0 to 255: 1 special, 2 blank, 4 punctuation, 8 alphanumeric.
-ghost use Rattle.classes.specs.Classes.{Ruled};
+ghost use Rattle.std.specs.Prelude.{◌≡◌};
+ghost use Rattle.classes.specs.Classes.{class_of};
 
 const CLASSES: [u8; 256] = [
     0, 0, 0, 0, 0, 0, 0, 0, 0, 2, 3, 0, 2, 2, 0, 0, 0, 0, 0, 0, 0, 0, 0, 0, 0, 0, 0, 0, 0, 0, 0, 0,
@@ -12,8 +13,10 @@ const CLASSES: [u8; 256] = [
     0, 0, 0, 0, 0, 0, 0, 0, 0, 0, 0, 0, 0, 0, 0, 0, 0, 0, 0, 0, 0, 0, 0, 0, 0, 0, 0, 0, 0, 0, 0, 0,
 ];
 
-pub fn classes() -> [u8; 256]
-    ensures { Ruled result }
+// The flags of a byte.
+pub fn class_of(b: u8) -> u8
+    ensures { result ≡ class_of b }
 {
-    CLASSES
+    let table: &'static [u8; 256] = &CLASSES;
+    table[b as usize]
 }

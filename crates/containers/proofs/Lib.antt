@@ -1,3 +1,1 @@
-pub mod Trying
-pub mod Closing
 pub mod Sought

@@ -1,11 +1,16 @@
 -- The close of each sort, and a token tried as a closer, then as an opener, then alone.
+use Rattle.std.specs.Prelude.{None, Option, Some}
 use Prim.Native.Nat.{ℕ, ◌+◌, ◌≤◌, ◌<◌}
 use mathlib.Core.Path.{◌≡◌, refl, sym, ap, ◌∙◌, subst}
 use mathlib.Core.List.{List, [], ◌∷◌}
 use mathlib.Core.Bool.{Bool, true, false}
 use native.Mathlib.Omega.{arith}
 use lib.ListN.{length}
+use Rattle.lex.specs.declared.lex.Cursor.{Cursor}
+use Rattle.lex.specs.declared.lex.Token.{Token}
 use Rattle.lex.specs.Lexer.{peek_of}
+use Rattle.lex.proofs.Laws.{Sound, peek-kept}
+use Rattle.reading.specs.declared.Closer.{Closer}
 use Rattle.reading.specs.declared.Opener.{Opener}
 use Rattle.reading.specs.declared.Marks.{Marks}
 use Rattle.reading.specs.declared.Pair.{Pair}
@@ -14,23 +19,27 @@ use Rattle.reading.specs.declared.DelimEventKind.{DelimEventKind}
 use Rattle.reading.specs.declared.DelimEventKind.TheVariants as makes
 use Rattle.reading.specs.declared.Sort.{Sort}
 use Rattle.reading.specs.declared.Sort.TheVariants as sort
-use Rattle.reading.specs.Machine.{View, Rules, Sheet, State, Turn, Here, with_openers}
+use Rattle.reading.specs.Machine.{View, Sheet, State, Turn, Here, with_openers}
 use Rattle.reading.specs.Tokens.{closing_of}
-use Rattle.reading.specs.Containers.{seek, may_close, closes_pair, close_as, opens_or, tried, container}
+use Rattle.reading.specs.Containers.{seek, may_close, close_as, opens_or, tried, container}
 use Rattle.reading.specs.Naming.{Names, Named}
 use Rattle.reading.proofs.Named.{named-seek}
+use Rattle.reading.proofs.Places.{peeked-taken, peek-sound, peek-place}
 use Rattle.rooms.specs.declared.Parser.{Parser}
-use Rattle.rooms.specs.declared.Margin.{Margin}
 use Rattle.rooms.specs.declared.Span.{Span}
-use Rattle.rooms.specs.declared.Found.{Found}
-use Rattle.rooms.specs.declared.Found.TheVariants.{At, Nothing}
 use Rattle.rooms.specs.Records.{opener_at, opens, place}
-use Rattle.rooms.specs.Standing.{counting, stands, viewed, here, moved, staying, Changed, Stepped}
+use Rattle.rooms.specs.Standing.{here}
+use Rattle.rooms.specs.Steps.{state}
 use Rattle.rooms.proofs.Rows.{stack-length}
-use Rattle.rooms.proofs.Changing.{changed-stepped}
 use Rattle.rooms.proofs.Search.{found_at, place_none}
-use Rattle.links.specs.Linked.{linked, sheet_of}
-use Rattle.containers.specs.Ready.{Ready, LabelRoom, span_closed, closable}
+use Rattle.containers.specs.Ready.{closable}
+
+-- a bracket that is taken along lies within the line
+pub span-within : (line : List ℕ) (c : Cursor) (to : ℕ) (t : Token) → Sound line c → c.pos ≡ to → (peek_of line c).token ≡ Some t
+    → (1 ≤ t.len) × (to + t.len ≤ length line)
+span-within line c to t so pl e =
+    let k = peeked-taken line (peek_of line c).cursor t (peek-sound line c so) ((peek-kept line c).held ∙ e) in
+    (k.long, omega (arith, k.within, peek-place line c to pl))
 
 -- what an opener names, by what its end makes
 pub named-pair : (x : Opener) (n : ℕ) (d : DelimEventKind) (k : Pair) → Names d x n → d ≡ makes.Pair k → x.event < n
@@ -83,52 +92,13 @@ pub link-small : (s : Sort) (t : Target) → closing_of s ≡ makes.Link t → t
 unfolding SmallBy
 link-small s t e = subst SmallBy e (small_of s)
 
--- the close of each sort
-module _ (m : Margin) (text line : List ℕ) (h : Span) (x : Opener) (p : Parser) (q o l : List ℕ) (sh : LabelRoom p l) (rules : Rules) where
-  abbrev closing : DelimEventKind → State → Turn
-  closing d = close_as (sheet_of rules text l) (viewed m line) (here h p) x d
-
-  as-it-is : (d : DelimEventKind) → closing_of x.sort ≡ d → (r : Parser) (q' o' l' : List ℕ) → Stepped p q o l r q' o' l' (closing d)
-      → Stepped p q o l r q' o' l' (closing (closing_of x.sort))
-  as-it-is d e r q' o' l' s = subst (λ (y : DelimEventKind). Stepped p q o l r q' o' l' (closing y)) (sym e) s
-
-  pub pair_step : (k : Pair) → closing_of x.sort ≡ makes.Pair k → (r : Parser) (q' : List ℕ)
-      → Changed p q o r q' o (staying p (closes_pair (viewed m line) (here h p) k.first k.second x))
-      → (t : Parser) → t ≡ moved r (peek_of line r.cursor).cursor → Stepped p q o l t q' o l (closing (closing_of x.sort))
-  unfolding close_as
-  pair_step k e r q' c t ist =
-      as-it-is (makes.Pair k) e t q' o l
-      (subst (λ (y : Parser). Stepped p q o l y q' o l (closing (makes.Pair k))) (sym ist)
-      record {
-        same = ap (λ (a : Turn). record { cursor = (peek_of line a.cursor).cursor; state = a.state }) (c.same l);
-        labels = omega (arith, c.labels, sh.labels);
-      })
-
-  pub span-step : (image : Bool) → closing_of x.sort ≡ makes.Span image → (r : Parser) (q' o' : List ℕ)
-      → Changed p q o r q' o' (span_closed (viewed m line) (here h p) image x) → Stepped p q o l r q' o' l (closing (closing_of x.sort))
-  unfolding close_as
-  span-step image e r q' o' c =
-      as-it-is (makes.Span image) e r q' o' l (changed-stepped p q o r q' o' (span_closed (viewed m line) (here h p) image x) c l sh.labels)
-
-  pub link-as : (t : Target) → closing_of x.sort ≡ makes.Link t → (r : Parser) (q' l' : List ℕ)
-      → Stepped p q o l r q' o l' (staying p (linked rules text l (viewed m line) (here h p) t x))
-      → (z : Parser) → z ≡ moved r (peek_of line r.cursor).cursor → Stepped p q o l z q' o l' (closing (closing_of x.sort))
-  unfolding close_as
-  link-as t e r q' l' s z isz =
-      as-it-is (makes.Link t) e z q' o l'
-      (subst (λ (y : Parser). Stepped p q o l y q' o l' (closing (makes.Link t))) (sym isz)
-      record {
-        same = ap (λ (a : Turn). record { cursor = (peek_of line a.cursor).cursor; state = a.state }) s.same;
-        labels = s.labels;
-      })
-
 -- the opener that is tried
-module _ (v : View) (h : Here) (s : State) (o : List ℕ) (mark n : ℕ) (f : Found) (isf : f ≡ place (seek mark (opens n o))) where
-  pub sought-none : f ≡ Nothing → Nothing ≡ closable v h s (seek mark (opens n o))
+module _ (v : View) (h : Here) (s : State) (o : List ℕ) (mark : Option Closer) (n : ℕ) (f : Option ℕ) (isf : f ≡ place (seek mark (opens n o))) where
+  pub sought_none : f ≡ None → None ≡ closable v h s (seek mark (opens n o))
   unfolding closable
-  sought-none e = sym (ap (closable v h s) (place_none (seek mark (opens n o)) (sym isf ∙ e)))
+  sought_none e = sym (ap (closable v h s) (place_none (seek mark (opens n o)) (sym isf ∙ e)))
 
-  module _ (i : ℕ) (e : f ≡ At i) where
+  module _ (i : ℕ) (e : f ≡ Some i) where
     found : (i < n) × (seek mark (opens n o) ≡ opener_at o i ∷ opens i o)
     found = found_at o mark n i (sym isf ∙ e)
 
@@ -146,40 +116,40 @@ module _ (v : View) (h : Here) (s : State) (o : List ℕ) (mark n : ℕ) (f : Fo
       sought : seek mark (opens n o) ≡ x ∷ opens i o
       sought = found.1 ∙ ap (λ (y : Opener). y ∷ opens i o) (sym isx)
 
-      pub sought-closes : may_close v h s x ≡ true → At i ≡ closable v h s (seek mark (opens n o))
+      pub sought-closes : may_close v h s x ≡ true → Some i ≡ closable v h s (seek mark (opens n o))
       unfolding closable
-      sought-closes t = sym (rw (sought, t, closable) (ap At (stack-length opener_at i o)))
+      sought-closes t = sym (rw (sought, t, closable) (ap Some (stack-length opener_at i o)))
 
-      sought-not : may_close v h s x ≡ false → Nothing ≡ closable v h s (seek mark (opens n o))
+      pub sought-not : may_close v h s x ≡ false → None ≡ closable v h s (seek mark (opens n o))
       unfolding closable
       sought-not t = sym (rw (sought, t, closable))
 
 -- what the answer of the trial says
 module _ (v : View) (h : Here) (s : State) where
-  closable-place : (os : List Opener) (i : ℕ) → closable v h s os ≡ At i → place os ≡ At i
+  closable-place : (os : List Opener) (i : ℕ) → closable v h s os ≡ Some i → place os ≡ Some i
   unfolding closable place
   closable-place [] i e = e
   closable-place (o ∷ os) i e = go (may_close v h s o) e
     where
-      go : (b : Bool) → elim b [ true ↦ At (length os) | false ↦ Nothing ] ≡ At i → At (length os) ≡ At i
+      go : (b : Bool) → elim b [ true ↦ Some (length os) | false ↦ None ] ≡ Some i → Some (length os) ≡ Some i
       go true e = e
       go false e = let z : ◌≡◌ {A = ℕ} 0 1 = cc in absurd (omega arith)
 
-  closable-may : (o : Opener) (os : List Opener) (i : ℕ) → closable v h s (o ∷ os) ≡ At i → may_close v h s o ≡ true
+  closable-may : (o : Opener) (os : List Opener) (i : ℕ) → closable v h s (o ∷ os) ≡ Some i → may_close v h s o ≡ true
   unfolding closable
   closable-may o os i e = go (may_close v h s o) e
     where
-      go : (b : Bool) → elim b [ true ↦ At (length os) | false ↦ Nothing ] ≡ At i → b ≡ true
+      go : (b : Bool) → elim b [ true ↦ Some (length os) | false ↦ None ] ≡ Some i → b ≡ true
       go true e = refl
       go false e = let z : ◌≡◌ {A = ℕ} 0 1 = cc in absurd (omega arith)
 
-  tried-none : (x : Sheet) (k : Marks) (os : List Opener) → closable v h s os ≡ Nothing
+  tried-none : (x : Sheet) (k : Marks) (os : List Opener) → closable v h s os ≡ None
       → tried x v h k os s ≡ record { cursor = h.cursor; state = opens_or v h k.alone k.opens s }
   unfolding closable tried
   tried-none x k [] e = refl
   tried-none x k (o ∷ os) e = go (may_close v h s o) e
     where
-      go : (b : Bool) → elim b [ true ↦ At (length os) | false ↦ Nothing ] ≡ Nothing
+      go : (b : Bool) → ◌≡◌ {A = Option ℕ} (elim b [ true ↦ Some (length os) | false ↦ None ]) None
           → ◌≡◌ {A = Turn}
           (elim b [
             | true ↦ close_as x v h o (closing_of o.sort) (with_openers os s)
@@ -189,68 +159,39 @@ module _ (v : View) (h : Here) (s : State) where
       go false e = refl
 
 -- a token tried
-module _ (m : Margin) (text line : List ℕ) (h : Span) (k : Marks) (p : Parser) (q o l : List ℕ) (f : Found)
-    (isf : f ≡ closable (viewed m line) (here h p) (stands p q o l) (seek k.closes (opens p.openers o))) where
-  pub none-step : f ≡ Nothing → p.labels ≤ length l → (r : Parser) (q' o' : List ℕ)
-      → Changed p q o r q' o' (staying p (opens_or (viewed m line) (here h p) k.alone k.opens))
-      → (rules : Rules) → Stepped p q o l r q' o' l (container (sheet_of rules text l) (viewed m line) (here h p) k)
-  none-step e fits r q' o' c rules =
-      record {
-        same = c.same l
-            ∙ sym (tried-none (viewed m line) (here h p) (stands p q o l) (sheet_of rules text l) k (seek k.closes (opens p.openers o)) (sym isf ∙ e));
-        labels = omega (arith, c.labels, fits);
-      }
+module _ (v : View) (h : Span) (k : Marks) (p : Parser) (f : Option ℕ)
+    (isf : f ≡ closable v (here h p.at) (state p) (seek k.closes (state p).openers)) where
+  pub none-tried : f ≡ None → (x : Sheet)
+      → record { cursor = p.at.cursor; state = opens_or v (here h p.at) k.alone k.opens (state p) } ≡ container x v (here h p.at) k (state p)
+  none-tried e x = sym (tried-none v (here h p.at) (state p) x k (seek k.closes (state p).openers) (sym isf ∙ e))
 
-  module _ (i : ℕ) (e : f ≡ At i) where
-    at : (i < p.openers) × (seek k.closes (opens p.openers o) ≡ opener_at o i ∷ opens i o)
-    at = found_at o k.closes p.openers i (closable-place (viewed m line) (here h p) (stands p q o l) (seek k.closes (opens p.openers o)) i (sym isf ∙ e))
+  module _ (i : ℕ) (e : f ≡ Some i) where
+    at : (i < p.at.openers) × (seek k.closes (state p).openers ≡ opener_at p.openers.now i ∷ opens i p.openers.now)
+    at = found_at p.openers.now k.closes p.at.openers i (closable-place v (here h p.at) (state p) (seek k.closes (state p).openers) i (sym isf ∙ e))
 
-    pub found_within : i < p.openers
-    found_within = at.0
+    named-there : Named (state p).openers p.at.events → Named (opener_at p.openers.now i ∷ opens i p.openers.now) p.at.events
+    named-there w = subst (λ (os : List Opener). Named os p.at.events) at.1 (named-seek k.closes (state p).openers p.at.events w)
 
-    named-there : Named (opens p.openers o) p.events → Named (opener_at o i ∷ opens i o) p.events
-    named-there w = subst (λ (os : List Opener). Named os p.events) at.1 (named-seek k.closes (opens p.openers o) p.events w)
-
-    -- the newer openers are discarded
-    pub found-ready : Ready line m h p q o → Ready line m h (counting p i) q o
+    -- the older openers
+    pub found-named : Named (state p).openers p.at.events → Named (opens i p.openers.now) p.at.events
     unfolding Named
-    found-ready w =
-        record {
-          long = w.long;
-          within = w.within;
-          small = w.small;
-          place = w.place;
-          sound = w.sound;
-          room = w.room;
-          few = w.few;
-          shallow = omega (arith, at.0, w.shallow);
-          stack = omega (arith, at.0, w.stack);
-          named = (named-there w.named).1;
-        }
+    found-named w = (named-there w).1
 
-    module _ (x : Opener) (isx : x ≡ opener_at o i) where
-      pub found-names : Named (opens p.openers o) p.events → Names (closing_of x.sort) x p.events
+    module _ (x : Opener) (isx : x ≡ opener_at p.openers.now i) where
+      pub found-names : Named (state p).openers p.at.events → Names (closing_of x.sort) x p.at.events
       unfolding Named
-      found-names w = subst (λ (y : Opener). Names (closing_of y.sort) y p.events) (sym isx) (named-there w).0
+      found-names w = subst (λ (y : Opener). Names (closing_of y.sort) y p.at.events) (sym isx) (named-there w).0
 
-      there : seek k.closes (opens p.openers o) ≡ x ∷ opens i o
-      there = at.1 ∙ ap (λ (y : Opener). y ∷ opens i o) (sym isx)
+      there : seek k.closes (state p).openers ≡ x ∷ opens i p.openers.now
+      there = at.1 ∙ ap (λ (y : Opener). y ∷ opens i p.openers.now) (sym isx)
 
-      may : may_close (viewed m line) (here h p) (stands p q o l) x ≡ true
+      may : may_close v (here h p.at) (state p) x ≡ true
       may =
-          closable-may (viewed m line) (here h p) (stands p q o l) x (opens i o) i
-          (subst (λ (os : List Opener). closable (viewed m line) (here h p) (stands p q o l) os ≡ At i) there (sym isf ∙ e))
+          closable-may v (here h p.at) (state p) x (opens i p.openers.now) i
+          (subst (λ (os : List Opener). closable v (here h p.at) (state p) os ≡ Some i) there (sym isf ∙ e))
 
-      pub closed-step : (rules : Rules) (r : Parser) (q' o' l' : List ℕ)
-          → Stepped (counting p i) q o l r q' o' l' (close_as (sheet_of rules text l) (viewed m line) (here h p) x (closing_of x.sort))
-          → Stepped p q o l r q' o' l' (container (sheet_of rules text l) (viewed m line) (here h p) k)
+      -- the newer openers are discarded
+      pub closed-tried : (y : Sheet)
+          → close_as y v (here h p.at) x (closing_of x.sort) (with_openers (opens i p.openers.now) (state p)) ≡ container y v (here h p.at) k (state p)
       unfolding tried
-      closed-step rules r q' o' l' s = record { same = s.same ∙ sym (rw (there, may, tried)); labels = s.labels }
-
--- only the newest opener that a mark closes is tried: where it may not close, none is found
-module _ (m : Margin) (line : List ℕ) (h : Span) (p : Parser) (o : List ℕ) (mark : ℕ) where
-  pub tried-barred : (f : Found) → f ≡ place (seek mark (opens p.openers o)) → (i : ℕ) → f ≡ At i → (x : Opener) → x ≡ opener_at o i → (b : Bool)
-      → ((q os l : List ℕ) → b ≡ may_close (viewed m line) (here h p) (stands p q os l) x) → b ≡ false → (q l : List ℕ)
-      → Nothing ≡ closable (viewed m line) (here h p) (stands p q o l) (seek mark (opens p.openers o))
-  tried-barred f isf i e x isx b may no-close q l =
-      sought-not (viewed m line) (here h p) (stands p q o l) o mark p.openers f isf i e x isx (sym (may q o l) ∙ no-close)
+      closed-tried y = sym (rw (there, may, tried))

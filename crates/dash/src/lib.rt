@@ -28,15 +28,15 @@ pub fn split_hyphens(len: usize) -> Dashes
         0 | 3 => split(len / 3, 0),
         2 | 4 => split(0, len / 2),
         5 => split((len - 2) / 3, 1),
-        // no other number is left by six
-        1 | _ => split((len - 4) / 3, 2),
+        // 1: no other number is left by six
+        _ => split((len - 4) / 3, 2),
     }
 }
 
 fn split(em: usize, en: usize) -> Dashes
     ensures { result ≡ dashes em en }
 {
-    Dashes { em: em, en: en }
+    Dashes { em, en }
 }
 
 // A run of periods.

@@ -1,149 +1,126 @@
 -- The loop over the events: those that were read, and those that are left.
-use Prim.Native.Nat.{ℕ, suc, ◌+◌, ◌-◌, ◌*◌, ◌≤◌, ◌<◌}
-use mathlib.Core.Path.{◌≡◌, refl, sym, ap, ◌∙◌}
-use mathlib.Core.List.{List, [], ◌∷◌, ◌++◌, append_assoc, append-nil}
-use mathlib.Core.Bool.{Bool, true, false}
+use Rattle.std.proofs.lemmas.Bool.Decides.{nat_tests}
+use Rattle.std.specs.Prelude.{ℕ, suc, ◌≡◌, ◌+◌, ◌-◌, ◌*◌, ◌≤◌, ◌<◌, List, [], ◌∷◌, ◌++◌, Bool, true, false, leb, length, Result, Ok, Err, refl}
+use Rattle.std.proofs.Common.{sym, ap, ◌∙◌, append_assoc, append-nil, arith}
 use native.Mathlib.Numerals.{add-one}
-use native.Mathlib.Omega.{arith}
-use borrow.Author.Tests.{le-leb, lt-leb}
-use lib.Dec.{leb}
-use lib.ListN.{length}
-use lib.Seq.{length-sets}
+use borrow.Author.Tests.{leb-true, le-leb, lt-leb}
+use lib.ListN.{length-append}
+use lib.Seq.{sets}
 use Rattle.reading.specs.declared.Event.{Event}
 use Rattle.reading.specs.Events.{event_numbers}
 use Rattle.reading.specs.Questions.{numbers}
 use Rattle.rooms.specs.Rows.{rows}
 use Rattle.listing.specs.Listing.{listed}
 use Rattle.listing.proofs.Listed.{listed-stored}
-use Rattle.packing.specs.declared.Fault.{Fault}
 use Rattle.packing.specs.declared.Fault.TheVariants.{Rest}
-use Rattle.packing.specs.Unpacked.{Got, got, fault, on, pure, if_sound, event_from, events_from, at_end}
-use Rattle.packing.proofs.Single.{on_then, on-fault}
-use Rattle.decoder.specs.Decoding.{storing, kept, keeping}
+use Rattle.packing.specs.declared.FaultAt.{FaultAt}
+use Rattle.packing.specs.Unpacked.{Got, on, pure, if_sound, a_number, event_from, events_from, at_end, unpacked}
+use Rattle.decoder.specs.declared.Input.{Input}
+use Rattle.decoder.specs.Decoding.{came, Read, kept, holding, held}
 
 -- events behind others
 unfoldable pub onto : List Event → Got (List Event) → Got (List Event)
-onto ds (got es next) = got (ds ++ es) next
-onto ds (fault w p) = fault w p
+onto ds (Ok (es, next)) = Ok (ds ++ es, next)
+onto ds (Err e) = Err e
 
 onto-none : (g : Got (List Event)) → onto [] g ≡ g
 unfolding onto
-onto-none (got es next) = refl
-onto-none (fault w p) = refl
+onto-none (Ok (es, next)) = refl
+onto-none (Err e) = refl
 
 onto-more : (ds : List Event) (e : Event) (g : Got (List Event)) → onto ds (on (λ es. pure (e ∷ es)) g) ≡ onto (ds ++ (e ∷ [])) g
 unfolding onto on
-onto-more ds e (got es next) = ap (λ (l : List Event). got l next) (sym (append_assoc ds (e ∷ []) es))
-onto-more ds e (fault w p) = refl
+onto-more ds e (Ok (es, next)) = ap (λ (l : List Event). Ok (l, next)) (sym (append_assoc ds (e ∷ []) es))
+onto-more ds e (Err w) = refl
 
--- those that are not kept do not matter
-kept_any : (b : Bool) (ds cs : List Event) (g : Got (List Event)) → kept b ds ≡ kept b cs → keeping b (onto ds g) ≡ keeping b (onto cs g)
-unfolding kept keeping onto
-kept_any true ds cs g e = ap (λ (l : List Event). keeping true (onto l g)) e
-kept_any false ds cs (got es next) e = refl
-kept_any false ds cs (fault w p) e = refl
+-- at the head of the loop the events ds were read of n, and stand in a room that holds so many
+pub record Seen (bytes : List ℕ) (n size : ℕ) (room : List ℕ) (input : Input) (prev i : ℕ) : Type 0 where
+  pub ds : List Event
+  pub count : length ds ≡ i
+  pub stands : n ≤ size → listed i room ≡ ds
+  pub lent : input.bytes.now ≡ bytes
+  pub same : unpacked bytes ≡ on (at_end bytes) (onto ds (events_from bytes (n - i) prev input.at))
 
-kept-none : (b : Bool) → kept b [] ≡ []
-unfolding kept
-kept-none true = refl
-kept-none false = refl
+-- the count is read
+module _ {input input' : Input} {r : Result ℕ FaultAt} (x : Read input a_number r input') (start : input.at ≡ 0) where
+  here : a_number input.bytes.now 0 ≡ came r input'.at
+  here = ap (a_number input.bytes.now) (sym start) ∙ sym x.same
 
-kept-twice : (b : Bool) (ds : List Event) → kept b (kept b ds) ≡ kept b ds
-unfolding kept
-kept-twice true ds = refl
-kept-twice false ds = refl
+  pub count_fault : (size : ℕ) (room : List ℕ) (w : FaultAt) → r ≡ Err w → held size (Err w) room ≡ holding size (unpacked input.bytes.now)
+  unfolding on held holding
+  count_fault size room w e = sym (ap (λ g. holding size (on (λ n. λ to. on (at_end input.bytes.now) (events_from input.bytes.now n 0 to)) g)) (here ∙ ap (λ r. came r input'.at) e))
 
--- nor does it matter to what is left over
-keeping-end : (b : Bool) (bytes : List ℕ) (g : Got (List Event)) → keeping b (on (at_end bytes) g) ≡ on (at_end bytes) (keeping b g)
-unfolding keeping on if_sound
-keeping-end b bytes (got es next) = by (leb (length bytes) next) refl
-  where
-    by : (t : Bool) → leb (length bytes) next ≡ t → keeping b (at_end bytes es next) ≡ at_end bytes (kept b es) next
-    by true e = rw (e, if_sound)
-    by false e = rw (e, if_sound)
-keeping-end b bytes (fault w p) = refl
+  pub seen_first : (n size : ℕ) (room : List ℕ) → r ≡ Ok n → Seen input.bytes.now n size room input' 0 0
+  unfolding on rows
+  seen_first n size room e =
+      let all : n - 0 ≡ n = omega arith in
+      record {
+        ds = [];
+        count = refl;
+        stands = λ k. refl;
+        lent = ap (λ b. b.now) x.bytes;
+        same = ap (on (λ n. λ to. on (at_end input.bytes.now) (events_from input.bytes.now n 0 to))) (here ∙ ap (λ r. came r input'.at) e)
+            ∙ ap (on (at_end input.bytes.now)) (sym ((λ t. onto [] (events_from input.bytes.now (all t) 0 input'.at)) ∙ onto-none (events_from input.bytes.now n 0 input'.at)));
+      }
 
--- an event more
-kept-stored : (b : Bool) (room : List ℕ) (i : ℕ) (e : Event) → (b ≡ true → i * event_numbers + event_numbers ≤ length room)
-    → kept b (listed (i + 1) (storing b room i e)) ≡ kept b (kept b (listed i room) ++ (e ∷ []))
-unfolding kept storing
-kept-stored true room i e h = ap (λ (k : ℕ). listed k (storing true room i e)) (add-one i) ∙ listed-stored room i e (h refl)
-kept-stored false room i e h = refl
-
-storing-length : (b : Bool) (room : List ℕ) (i : ℕ) (e : Event) → length (storing b room i e) ≡ length room
-unfolding storing
-storing-length true room i e = length-sets room (i * event_numbers) (numbers (e ∷ []))
-storing-length false room i e = refl
-
--- at the head of the loop i events were read, and stand in the room if they are kept
-pub record Seen (bytes : List ℕ) (from n : ℕ) (keep : Bool) (room₀ room : List ℕ) (at prev i : ℕ) : Type 0 where
-  pub within : i ≤ n
-  pub holds : keep ≡ true → n * event_numbers ≤ length room
-  pub size : length room ≡ length room₀
-  pub same : keeping keep (events_from bytes n 0 from) ≡ keeping keep (onto (kept keep (listed i room)) (events_from bytes (n - i) prev at))
-
-pub seen_first : (bytes : List ℕ) (from n : ℕ) (keep : Bool) (room : List ℕ) → (keep ≡ true → n * event_numbers ≤ length room) → Seen bytes from n keep room room from 0 0
-unfolding rows
-seen_first bytes from n keep room h =
-    record { within = omega arith; holds = h; size = refl; same = sym (ap (keeping keep) ((λ t. onto (kept-none keep t) (events_from bytes (all t) 0 from)) ∙ onto-none (events_from bytes n 0 from))) }
-  where
-    all : n - 0 ≡ n
-    all = omega arith
-
-module _ {bytes : List ℕ} {from n : ℕ} {keep : Bool} {room₀ room : List ℕ} {at prev i : ℕ} (s : Seen bytes from n keep room₀ room at prev i) where
-  abbrev ds : List Event
-  ds = kept keep (listed i room)
-
-  abbrev all : Got (List Event)
-  all = keeping keep (on (at_end bytes) (events_from bytes n 0 from))
-
-  -- what comes of the events that are left
-  comes : {g : Got (List Event)} → events_from bytes (n - i) prev at ≡ g → all ≡ on (at_end bytes) (keeping keep (onto ds g))
-  comes e = keeping-end keep bytes (events_from bytes n 0 from) ∙ ap (on (at_end bytes)) (s.same ∙ ap (λ (g : Got (List Event)). keeping keep (onto ds g)) e)
-
+module _ {bytes : List ℕ} {n size : ℕ} {room : List ℕ} {input : Input} {prev i : ℕ} (s : Seen bytes n size room input prev i) where
   -- none are left
-  module _ (h : n ≤ i) where
-    last : events_from bytes (n - i) prev at ≡ got [] at
-    unfolding events_from
-    last = let z : n - i ≡ 0 = omega arith in ap (λ (k : ℕ). events_from bytes k prev at) z
-
-    there : all ≡ at_end bytes (kept keep (listed n room)) at
-    unfolding on keeping onto
+  module _ (h : n ≡ i) where
+    there : unpacked bytes ≡ at_end bytes s.ds input.at
+    unfolding on events_from onto
     there =
-        let end : i ≡ n = omega (arith, s.within, h) in
-        comes last ∙ ap (λ (l : List Event). at_end bytes l at) (ap (kept keep) (append-nil ds) ∙ kept-twice keep (listed i room) ∙ ap (λ (k : ℕ). kept keep (listed k room)) end)
+        let z : n - i ≡ 0 = omega arith in
+        s.same
+        ∙ ap (λ (k : ℕ). on (at_end bytes) (onto s.ds (events_from bytes k prev input.at))) z
+        ∙ ap (λ (l : List Event). at_end bytes l input.at) (append-nil s.ds)
 
-    pub seen-rest : at < length bytes → fault Rest at ≡ all
-    unfolding if_sound
-    seen-rest l = sym (there ∙ ap (λ (t : Bool). if_sound t Rest at (kept keep (listed n room)) at) (lt-leb (length bytes) at l))
+    pub seen-rest : input.at < length bytes → held size (Err (record { fault = Rest; place = input.at })) room ≡ holding size (unpacked bytes)
+    unfolding if_sound held holding
+    seen-rest l = sym (ap (holding size) (there ∙ ap (λ (t : Bool). if_sound t Rest input.at s.ds input.at) (lt-leb (length bytes) input.at l)))
 
-    pub seen_all : length bytes ≤ at → got (kept keep (listed n room)) at ≡ all
-    unfolding if_sound
-    seen_all l = sym (there ∙ ap (λ (t : Bool). if_sound t Rest at (kept keep (listed n room)) at) (le-leb (length bytes) at l))
+    pub seen_all : length bytes ≤ input.at → held size (Ok n) room ≡ holding size (unpacked bytes)
+    unfolding if_sound holding held kept
+    seen_all l =
+        by (leb n size) refl
+        ∙ (λ t. Ok (count t, kept (leb (count t) size) s.ds))
+        ∙ sym (ap (holding size) (there ∙ ap (λ (t : Bool). if_sound t Rest input.at s.ds input.at) (le-leb (length bytes) input.at l)))
+      where
+        count : n ≡ length s.ds
+        count = omega (arith, s.count)
+
+        by : (t : Bool) → leb n size ≡ t → held size (Ok n) room ≡ Ok (n, kept (leb n size) s.ds)
+        by true t = rw (t, held, kept) (ap (λ (l : List Event). Ok (n, l)) (ap (λ (j : ℕ). listed j room) h ∙ s.stands (leb-true n size t)))
+        by false t = rw (t, held, kept)
 
   -- one is
-  module _ (h : i < n) where
-    more : events_from bytes (n - i) prev at ≡ on (λ e. λ to. on (λ es. pure (e ∷ es)) (events_from bytes (n - (i + 1)) e.end.0 to)) (event_from bytes prev at)
+  module _ (h : i < n) {r : Result Event FaultAt} {input' : Input} (x : Read input (λ bs. event_from bs prev) r input') where
+    abbrev behind : Event → ℕ → Got (List Event)
+    behind e to = on (λ es. pure (e ∷ es)) (events_from bytes (n - (i + 1)) e.end.0 to)
+
+    more : unpacked bytes ≡ on (at_end bytes) (onto s.ds (on behind (came r input'.at)))
     unfolding events_from
-    more = let z : n - i ≡ suc (n - (i + 1)) = omega arith in ap (λ (k : ℕ). events_from bytes k prev at) z
+    more = grind (arith, nat_tests)
 
-    pub seen-fits : keep ≡ true → i * event_numbers + event_numbers ≤ length room
-    seen-fits k = omega (arith, s.holds k)
+    pub seen-fault : (w : FaultAt) → r ≡ Err w → held size (Err w) room ≡ holding size (unpacked bytes)
+    unfolding on onto held holding
+    seen-fault w e = sym (ap (holding size) (more ∙ ap (λ r. on (at_end bytes) (onto s.ds (on behind (came r input'.at)))) e))
 
-    pub seen-fault : (w : Fault) (p : ℕ) → event_from bytes prev at ≡ fault w p → fault w p ≡ all
-    unfolding on keeping onto
-    seen-fault w p e = sym (comes (more ∙ on-fault _ e))
-
-    pub seen_more : (e : Event) (next : ℕ) → event_from bytes prev at ≡ got e next → Seen bytes from n keep room₀ (storing keep room i e) next e.end.0 (i + 1)
-    seen_more e next f =
-        let left = events_from bytes (n - (i + 1)) e.end.0 next in
+    -- the room with the event as the i-th, if it is kept
+    pub seen_more : (e : Event) (room' : List ℕ) → r ≡ Ok e
+        → (n ≤ size → (room' ≡ sets room (i * event_numbers) (numbers (e ∷ []))) × (i * event_numbers + event_numbers ≤ length room))
+        → Seen bytes n size room' input' e.end.0 (i + 1)
+    unfolding on
+    seen_more e room' q k =
         record {
-          within = omega arith;
-          holds = λ k. omega (arith, s.holds k, storing-length keep room i e);
-          size = storing-length keep room i e ∙ s.size;
-          same = s.same
-              ∙ ap (λ (g : Got (List Event)). keeping keep (onto ds g)) (more ∙ on_then _ f)
-              ∙ ap (keeping keep) (onto-more ds e left)
-              ∙ kept_any keep (ds ++ (e ∷ [])) (kept keep (listed (i + 1) (storing keep room i e))) left
-              (sym (kept-twice keep (listed (i + 1) (storing keep room i e)) ∙ kept-stored keep room i e seen-fits));
+          ds = s.ds ++ (e ∷ []);
+          count = omega (arith, length-append s.ds (e ∷ []), s.count);
+          stands = λ t.
+              ap (λ (j : ℕ). listed j room') (add-one i)
+              ∙ ap (listed (suc i)) (k t).0
+              ∙ listed-stored room i e (k t).1
+              ∙ ap (λ (es : List Event). es ++ (e ∷ [])) (s.stands t);
+          lent = ap (λ b. b.now) x.bytes ∙ s.lent;
+          same = more
+              ∙ ap (λ r. on (at_end bytes) (onto s.ds (on behind (came r input'.at)))) q
+              ∙ ap (on (at_end bytes)) (onto-more s.ds e (events_from bytes (n - (i + 1)) e.end.0 input'.at));
         }

@@ -1,2 +1,1 @@
-pub mod Steps
 pub mod Keeping

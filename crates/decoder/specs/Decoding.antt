@@ -1,48 +1,33 @@
 -- The answers of the functions that read a packed list, as what the definition says is read there.
-use Rattle.std.specs.Prelude.{ℕ, ◌*◌, List, [], ◌∷◌, Bool, true, false}
-use Rattle.std.proofs.lemmas.List.Edits.{sets}
+use Rattle.std.specs.Prelude.{ℕ, ◌≡◌, List, [], Bool, true, false, leb, length, Result, Ok, Err}
 use Rattle.reading.specs.declared.Event.{Event}
-use Rattle.reading.specs.declared.Home.{Home}
-use Rattle.reading.specs.Events.{event_numbers}
-use Rattle.reading.specs.Questions.{numbers}
 use Rattle.listing.specs.Listing.{listed}
-use Rattle.packing.specs.Unpacked.{Got, got, fault}
-use Rattle.decoder.specs.declared.Read.{Read}
-use Rattle.decoder.specs.declared.Read.TheVariants as read
-use Rattle.decoder.specs.declared.ReadHome.{ReadHome}
-use Rattle.decoder.specs.declared.ReadHome.TheVariants as home
-use Rattle.decoder.specs.declared.ReadEvent.{ReadEvent}
-use Rattle.decoder.specs.declared.ReadEvent.TheVariants as event
-use Rattle.decoder.specs.declared.Ended.{Ended}
-use Rattle.decoder.specs.declared.Ended.TheVariants as ended
+use Rattle.packing.specs.declared.FaultAt.{FaultAt}
+use Rattle.packing.specs.Unpacked.{Got, Reads}
+use Rattle.decoder.specs.declared.Input.{Input}
 
-unfoldable pub number_read : Read → Got ℕ
-number_read (read.Number n next) = got n next
-number_read (read.Fault w p) = fault w p
+-- what was read, by the answer and the place at the end
+abbrev pub came : {A : Type 0} → Result A FaultAt → ℕ → Got A
+came (Ok a) at = Ok (a, at)
+came (Err e) at = Err e
 
-unfoldable pub home_read : ReadHome → Got Home
-home_read (home.Home h next) = got h next
-home_read (home.Fault w p) = fault w p
-
-unfoldable pub event_read : ReadEvent → Got Event
-event_read (event.Event e next) = got e next
-event_read (event.Fault w p) = fault w p
-
--- an event that is kept is stored as the i-th of a room
-unfoldable pub storing : Bool → List ℕ → ℕ → Event → List ℕ
-storing true room i e = sets room (i * event_numbers) (numbers (e ∷ []))
-storing false room i e = room
+-- from an input to the answer r and the input at its end: r is what is read of its bytes from its
+-- place on
+pub record Read {A : Type 0} (i : Input) (p : List ℕ → Reads A) (r : Result A FaultAt) (i' : Input) : Type 0 where
+  pub same : came r i'.at ≡ p i.bytes.now i.at
+  pub bytes : i'.bytes ≡ i.bytes
 
 -- events that are kept, or only looked through
 unfoldable pub kept : Bool → List Event → List Event
 kept true es = es
 kept false es = []
 
-unfoldable pub keeping : Bool → Got (List Event) → Got (List Event)
-keeping b (got es next) = got (kept b es) next
-keeping b (fault w p) = fault w p
+-- how many events there are, and those that are kept: all, if a room holds so many
+unfoldable pub holding : ℕ → Got (List Event) → Result (ℕ × List Event) FaultAt
+holding size (Ok (es, next)) = Ok (length es, kept (leb (length es) size) es)
+holding size (Err e) = Err e
 
--- n of them, which stand in a room if they are kept
-unfoldable pub events_read : Bool → ℕ → Ended → List ℕ → Got (List Event)
-events_read b n (ended.At next) room = got (kept b (listed n room)) next
-events_read b n (ended.Fault w p) room = fault w p
+-- by the answer and the room at the end
+unfoldable pub held : ℕ → Result ℕ FaultAt → List ℕ → Result (ℕ × List Event) FaultAt
+held size (Ok n) room = Ok (n, kept (leb n size) (listed n room))
+held size (Err e) room = Err e

@@ -1,249 +1,129 @@
 #![tactic(auto)]
 // Reading a packed list: a number and what is to hold of it, an event, and all events.
-ghost use Rattle.std.specs.Prelude.{◌≡◌, true, ◌+◌, ◌*◌, ◌≤◌, length};
+ghost use Rattle.std.specs.Prelude.{◌≡◌, ◌/◌, length};
 ghost use Rattle.reading.specs.Events.{event_numbers};
-ghost use Rattle.reading.specs.Homes.{has_link};
-ghost use Rattle.packing.specs.Unpacked.{on, a_number, a_sum, a_kind, a_home, optional, with_link, with_range, home_from, with_home, with_span, event_from, events_from, at_end};
-ghost use Rattle.decoder.specs.Decoding.{number_read, home_read, event_read, storing, keeping, events_read};
+ghost use Rattle.packing.specs.Unpacked.{a_number, a_sum, a_kind, a_home, optional, home_from, event_from, unpacked};
+ghost use Rattle.decoder.specs.Decoding.{Read, held, holding};
 
-use groups::Number;
-use packing::{Fault, LARGEST};
-use reading::{Event, Home, Link, NO_HOME, Place};
+use groups::NumberError;
+use packing::{Fault, FaultAt};
+use reading::{EVENT_NUMBERS, Event, Home, Link, NO_HOME, Place};
 
-// A number, and the place behind it; or a fault, and its place.
+// The bytes of a list, and the place up to which they are read.
 #[derive(Clone, Copy)]
-pub enum Read {
-    Number(u32, usize),
-    Fault(Fault, usize),
+struct Input<'a> {
+    bytes: &'a [u8],
+    at: usize,
 }
 
-// The same, of home and link number.
-#[derive(Clone, Copy)]
-enum ReadHome {
-    Home(Home, usize),
-    Fault(Fault, usize),
-}
-
-// And of an event.
-#[derive(Clone, Copy)]
-enum ReadEvent {
-    Event(Event, usize),
-    Fault(Fault, usize),
-}
-
-// The place behind all events, or a fault and its place.
-#[derive(Clone, Copy)]
-pub enum Ended {
-    At(usize),
-    Fault(Fault, usize),
-}
-
-// The number at a place.
-pub fn number_at(bytes: &[u8], at: usize) -> Read
-    ensures { number_read result ≡ a_number bytes.now at }
-{
-    let n = groups::number_at(bytes, at);
-    match n {
-        Number::Is(n, next) => Read::Number(n, next),
-        Number::Cut => Read::Fault(Fault::Cut, bytes.len()),
-        Number::Longer => Read::Fault(Fault::Longer, at),
-        Number::TooLarge => Read::Fault(Fault::TooLarge, at),
-    }
-}
-
-// On top of another: a start, an end.
-fn sum_at(bytes: &[u8], at: usize, base: u32) -> Read
-    ensures { number_read result ≡ a_sum bytes.now base at }
-{
-    let r = number_at(bytes, at);
-    match r {
-        Read::Number(n, next) => {
-            if LARGEST - base < n {
-                return Read::Fault(Fault::Beyond, at);
+impl<'a> Input<'a> {
+    #[tactic(auto, unfolding(packing::specs::Unpacked::number_as))]
+    fn number(&mut self) -> Result<u32, FaultAt>
+        ensures { Read self.old a_number result self.new }
+    {
+        let place = self.at;
+        match groups::number_at(self.bytes, place) {
+            Ok((n, next)) => {
+                self.at = next;
+                Ok(n)
             }
-            Read::Number(base + n, next)
+            Err(NumberError::Cut) => Err(Fault::Cut.at(self.bytes.len())),
+            Err(NumberError::Longer) => Err(Fault::Longer.at(place)),
+            Err(NumberError::TooLarge) => Err(Fault::TooLarge.at(place)),
         }
-        Read::Fault(f, p) => Read::Fault(f, p),
     }
-}
 
-fn kind_at(bytes: &[u8], at: usize) -> Read
-    ensures { number_read result ≡ a_kind bytes.now at }
-{
-    let r = number_at(bytes, at);
-    match r {
-        Read::Number(k, next) => {
-            if packing::known(k) {
-                return Read::Number(k, next);
-            }
-            Read::Fault(Fault::UnknownKind, at)
+    // On top of another: a start, an end.
+    #[tactic(auto, unfolding(packing::specs::Unpacked::on, packing::specs::Unpacked::if_sound))]
+    fn sum(&mut self, base: u32) -> Result<u32, FaultAt>
+        ensures { Read self.old (λ bs. a_sum bs base) result self.new }
+    {
+        let place = self.at;
+        let n = self.number()?;
+        base.checked_add(n).ok_or(Fault::Beyond.at(place))
+    }
+
+    #[tactic(auto, unfolding(packing::specs::Unpacked::on, packing::specs::Unpacked::if_sound))]
+    fn kind(&mut self) -> Result<u32, FaultAt>
+        ensures { Read self.old a_kind result self.new }
+    {
+        let place = self.at;
+        let kind = self.number()?;
+        if !packing::known(kind) {
+            return Err(Fault::UnknownKind.at(place));
         }
-        Read::Fault(f, p) => Read::Fault(f, p),
+        Ok(kind)
     }
-}
 
-fn home_at(bytes: &[u8], at: usize, kind: u32) -> Read
-    ensures { number_read result ≡ a_home bytes.now kind at }
-{
-    let r = number_at(bytes, at);
-    match r {
-        Read::Number(h, next) => {
-            if packing::may_have(kind, h) {
-                return Read::Number(h, next);
-            }
-            Read::Fault(Fault::WrongHome, at)
+    // Where the home of a kind is.
+    #[tactic(auto, unfolding(packing::specs::Unpacked::on, packing::specs::Unpacked::if_sound))]
+    fn home(&mut self, kind: u32) -> Result<u32, FaultAt>
+        ensures { Read self.old (λ bs. a_home bs kind) result self.new }
+    {
+        let place = self.at;
+        let home = self.number()?;
+        if !packing::may_have(kind, home) {
+            return Err(Fault::WrongHome.at(place));
         }
-        Read::Fault(f, p) => Read::Fault(f, p),
+        Ok(home)
     }
-}
 
-// The link number, if the kind has one.
-fn link_at(bytes: &[u8], at: usize, kind: u32) -> Read
-    ensures { number_read result ≡ optional (has_link kind) (a_number bytes.now) at }
-{
-    if packing::has_link(kind) {
-        return number_at(bytes, at);
-    }
-    Read::Number(0, at)
-}
-
-// Home and its part are read, the link number follows.
-fn with_link(bytes: &[u8], at: usize, kind: u32, home: u32, from: u32, to: u32) -> ReadHome
-    ensures { home_read result ≡ with_link bytes.now kind home from to at }
-{
-    let r = link_at(bytes, at, kind);
-    match r {
-        Read::Number(n, next) => ReadHome::Home(
-            Home {
-                home: home,
-                start: Place(from),
-                end: Place(to),
-                link: Link(n),
-            },
-            next,
-        ),
-        Read::Fault(f, p) => ReadHome::Fault(f, p),
-    }
-}
-
-// Home is read, its start and length follow.
-fn with_range(bytes: &[u8], at: usize, kind: u32, home: u32) -> ReadHome
-    ensures { home_read result ≡ with_range bytes.now kind home at }
-{
-    if home == NO_HOME {
-        return with_link(bytes, at, kind, home, 0, 0);
-    }
-    let r = number_at(bytes, at);
-    match r {
-        Read::Number(from, a) => {
-            let s = sum_at(bytes, a, from);
-            match s {
-                Read::Number(to, b) => with_link(bytes, b, kind, home, from, to),
-                Read::Fault(f, p) => ReadHome::Fault(f, p),
-            }
+    // Home and link number of a kind.
+    #[tactic(auto, unfolding(packing::specs::Unpacked::on, packing::specs::Unpacked::optional))]
+    fn home_from(&mut self, kind: u32) -> Result<Home, FaultAt>
+        ensures { Read self.old (λ bs. home_from bs kind) result self.new }
+    {
+        let home = self.home(kind)?;
+        let mut start = 0;
+        let mut end = 0;
+        if home != NO_HOME {
+            start = self.number()?;
+            end = self.sum(start)?;
         }
-        Read::Fault(f, p) => ReadHome::Fault(f, p),
+        let link = if packing::has_link(kind) {
+            self.number()?
+        } else {
+            0
+        };
+        Ok(Home {
+            home,
+            start: Place(start),
+            end: Place(end),
+            link: Link(link),
+        })
+    }
+
+    // An event behind one that ends at prev.
+    #[tactic(auto, unfolding(packing::specs::Unpacked::on))]
+    fn event(&mut self, prev: u32) -> Result<Event, FaultAt>
+        ensures { Read self.old (λ bs. event_from bs prev) result self.new }
+    {
+        let kind = self.kind()?;
+        let start = self.sum(prev)?;
+        let end = self.sum(start)?;
+        let home = self.home_from(kind)?;
+        Ok(rooms::event_of(kind, Place(start), Place(end), home))
     }
 }
 
-fn home_from(bytes: &[u8], at: usize, kind: u32) -> ReadHome
-    ensures { home_read result ≡ home_from bytes.now kind at }
+// The events of a list, of which there are so many. A room that holds them all has them from its
+// front.
+pub fn list(bytes: &[u8], room: &mut [u32]) -> Result<usize, FaultAt>
+    ensures { held (length room.old / event_numbers) result room.new ≡ holding (length room.old / event_numbers) (unpacked bytes.now) }
 {
-    let r = home_at(bytes, at, kind);
-    match r {
-        Read::Number(h, next) => with_range(bytes, next, kind, h),
-        Read::Fault(f, p) => ReadHome::Fault(f, p),
-    }
-}
-
-// Kind and span are read, home and link number follow.
-fn with_home(bytes: &[u8], at: usize, kind: u32, start: u32, end: u32) -> ReadEvent
-    ensures { event_read result ≡ with_home bytes.now kind start end at }
-{
-    let r = home_from(bytes, at, kind);
-    match r {
-        ReadHome::Home(h, next) => {
-            let from = h.start;
-            let to = h.end;
-            let link = h.link;
-            ReadEvent::Event(
-                Event {
-                    kind: kind,
-                    start: Place(start),
-                    end: Place(end),
-                    home: h.home,
-                    home_start: from,
-                    home_end: to,
-                    link: link,
-                },
-                next,
-            )
-        }
-        ReadHome::Fault(f, p) => ReadEvent::Fault(f, p),
-    }
-}
-
-// The kind is read, start and length follow.
-fn with_span(bytes: &[u8], at: usize, prev: u32, kind: u32) -> ReadEvent
-    ensures { event_read result ≡ with_span bytes.now prev kind at }
-{
-    let r = sum_at(bytes, at, prev);
-    match r {
-        Read::Number(start, a) => {
-            let s = sum_at(bytes, a, start);
-            match s {
-                Read::Number(end, b) => with_home(bytes, b, kind, start, end),
-                Read::Fault(f, p) => ReadEvent::Fault(f, p),
-            }
-        }
-        Read::Fault(f, p) => ReadEvent::Fault(f, p),
-    }
-}
-
-// An event behind one that ends at prev.
-fn event_from(bytes: &[u8], at: usize, prev: u32) -> ReadEvent
-    ensures { event_read result ≡ event_from bytes.now prev at }
-{
-    let r = kind_at(bytes, at);
-    match r {
-        Read::Number(k, next) => with_span(bytes, next, prev, k),
-        Read::Fault(f, p) => ReadEvent::Fault(f, p),
-    }
-}
-
-// An event that is to be kept is stored as the i-th.
-fn keep_event(keep: bool, room: &mut [u32], i: usize, e: Event)
-    requires { keep ≡ true → i * event_numbers + event_numbers ≤ length room.old }
-    ensures { room.new ≡ storing keep room.old i e }
-{
-    if keep {
-        listing::store(room, i, e);
-    }
-}
-
-// n events, and nothing behind them.
-pub fn events_from(bytes: &[u8], from: usize, n: usize, keep: bool, room: &mut [u32]) -> Ended
-    requires { keep ≡ true → n * event_numbers ≤ length room.old }
-    ensures { events_read keep n result room.new ≡ keeping keep (on (at_end bytes.now) (events_from bytes.now n 0 from)) }
-{
-    let mut at = from;
+    let mut input = Input { bytes, at: 0 };
+    let n = input.number()? as usize;
+    let keep = n <= room.len() / EVENT_NUMBERS;
     let mut prev = 0;
-    let mut i = 0;
-    while i < n {
-        let r = event_from(bytes, at, prev);
-        match r {
-            ReadEvent::Event(e, next) => {
-                keep_event(keep, room, i, e);
-                let end = e.end;
-                prev = end.0;
-                at = next;
-                i += 1;
-            }
-            ReadEvent::Fault(f, p) => return Ended::Fault(f, p),
+    for i in 0..n {
+        let e = input.event(prev)?;
+        if keep {
+            listing::store(room, i, e);
         }
+        prev = e.end.0;
     }
-    if at < bytes.len() {
-        return Ended::Fault(Fault::Rest, at);
+    if input.at < bytes.len() {
+        return Err(Fault::Rest.at(input.at));
     }
-    Ended::At(at)
+    Ok(n)
 }

@@ -1,9 +1,9 @@
 -- What an answer says to the caller, and a queue in a room that holds its events and in one that does not.
+use Rattle.std.specs.Prelude.{Option, None, Some}
 use Prim.Native.Nat.{ℕ, ◌/◌}
 use mathlib.Core.Path.{◌≡◌, refl}
 use mathlib.Core.List.{List, [], ◌∷◌, ◌++◌}
 use mathlib.Core.Bool.{Bool, true, false}
-use native.Mathlib.Omega.{arith}
 use borrow.Author.Tests.{leb-true}
 use lib.Dec.{leb}
 use lib.ListN.{length, drop}
@@ -12,24 +12,23 @@ use Rattle.reading.specs.declared.Event.{Event}
 use Rattle.reading.specs.Events.{event, str, softbreak, event_numbers}
 use Rattle.reading.specs.Draining.{flushed, drained, drain}
 use Rattle.reading.specs.Questions.{numbers}
-use Rattle.drain.specs.declared.Drained.TheVariants.{All, Full}
 use Rattle.drain.specs.Handing.{answered, handed}
 
 -- the answer names the count of the events, which the room holds
-pub answered-count : (k cap n : ℕ) → answered k cap ≡ All n → (n ≡ k) × (leb k cap ≡ true)
+pub answered-count : (k cap n : ℕ) → answered k cap ≡ Some n → (n ≡ k) × (leb k cap ≡ true)
 unfolding answered
 answered-count k cap n e = go (leb k cap) e
   where
-    go : (t : Bool) → elim t [ true ↦ All k | false ↦ Full ] ≡ All n → (n ≡ k) × (t ≡ true)
+    go : (t : Bool) → ◌≡◌ {A = Option ℕ} (elim t [ true ↦ Some k | false ↦ None ]) (Some n) → (n ≡ k) × (t ≡ true)
     go true e = (cc, refl)
-    go false e = let z : ◌≡◌ {A = ℕ} 0 1 = cc in absurd (omega arith)
+    go false e = cc
 
-pub answered-too-many : (k cap : ℕ) → answered k cap ≡ Full → leb k cap ≡ false
+pub answered-too-many : (k cap : ℕ) → answered k cap ≡ None → leb k cap ≡ false
 unfolding answered
 answered-too-many k cap e = go (leb k cap) e
   where
-    go : (t : Bool) → elim t [ true ↦ All k | false ↦ Full ] ≡ Full → t ≡ false
-    go true e = let z : ◌≡◌ {A = ℕ} 0 1 = cc in absurd (omega arith)
+    go : (t : Bool) → ◌≡◌ {A = Option ℕ} (elim t [ true ↦ Some k | false ↦ None ]) None → t ≡ false
+    go true e = cc
     go false e = refl
 
 -- all of them stand in the room
@@ -47,7 +46,7 @@ sample-held : handed (drain sample) (9 ∷ 9 ∷ 9 ∷ 9 ∷ 9 ∷ 9 ∷ 9 ∷ 9
 unfolding flushed drained numbers handed
 sample-held = refl
 
-sample-counted : answered (length (drain sample)) (15 / event_numbers) ≡ All 2
+sample-counted : answered (length (drain sample)) (15 / event_numbers) ≡ Some 2
 unfolding flushed drained answered
 sample-counted = refl
 
@@ -55,6 +54,6 @@ sample-cut : handed (drain sample) (9 ∷ 9 ∷ 9 ∷ 9 ∷ 9 ∷ 9 ∷ 9 ∷ 9 
 unfolding flushed drained numbers handed
 sample-cut = refl
 
-sample-full : answered (length (drain sample)) (8 / event_numbers) ≡ Full
+sample-full : answered (length (drain sample)) (8 / event_numbers) ≡ None
 unfolding flushed drained answered
 sample-full = refl

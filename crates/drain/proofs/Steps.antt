@@ -1,4 +1,5 @@
 -- Flushing, one turn of the loop over the queue, and its end.
+use Rattle.std.specs.Prelude.{None, Option, Some}
 use Prim.Native.Nat.{ℕ, ◌+◌, ◌/◌, ◌≤◌, ◌<◌}
 use mathlib.Core.Path.{◌≡◌, refl, sym, ap, ◌∙◌}
 use mathlib.Core.List.{List, [], ◌∷◌, ◌++◌}
@@ -14,11 +15,7 @@ use Rattle.reading.specs.Events.{event, str, event_numbers}
 use Rattle.reading.specs.Draining.{flushed, drained, drain}
 use Rattle.rooms.specs.Records.{event_at, events}
 use Rattle.rooms.proofs.Rows.{rows-length, rows_at}
-use Rattle.drain.specs.declared.Drained.{Drained}
-use Rattle.drain.specs.declared.Drained.TheVariants.{All, Full}
 use Rattle.drain.specs.declared.Held.{Held}
-use Rattle.drain.specs.declared.Progress.{Progress}
-use Rattle.drain.specs.declared.Progress.TheVariants as progress
 use Rattle.drain.specs.Handing.{answered, handed}
 use Rattle.drain.specs.Storing.{Out, out, put, put_all, rest}
 use Rattle.drain.proofs.Storing.{put-all-append, put-all-full, put-all-room}
@@ -45,25 +42,25 @@ module _ (a b : ℕ) (s : Out) where
   flush-before es = ap (λ (l : List Event). put_all l s) (flushed-append a b es) ∙ put-all-append (flushed a b []) es s
 
 -- what a flush answers of a Str behind k events, and what follows it
-module _ (a b k : ℕ) (room room' : List ℕ) (d : Drained) (flushes : out d room' ≡ put_all (flushed a b []) (out (All k) room)) where
-  flush-then : (es : List Event) → put_all es (out d room') ≡ put_all (flushed a b es) (out (All k) room)
-  flush-then es = ap (λ (s : Out). put_all es s) flushes ∙ sym (flush-before a b (out (All k) room) es)
+module _ (a b k : ℕ) (room room' : List ℕ) (d : Option ℕ) (flushes : out d room' ≡ put_all (flushed a b []) (out (Some k) room)) where
+  flush-then : (es : List Event) → put_all es (out d room') ≡ put_all (flushed a b es) (out (Some k) room)
+  flush-then es = ap (λ (s : Out). put_all es s) flushes ∙ sym (flush-before a b (out (Some k) room) es)
 
-  pub flush-full : d ≡ Full → (es : List Event) → out Full room' ≡ put_all (flushed a b es) (out (All k) room)
-  flush-full e es = sym (put-all-full es room') ∙ ap (λ (x : Drained). put_all es (out x room')) (sym e) ∙ flush-then es
+  pub flush-full : d ≡ None → (es : List Event) → out None room' ≡ put_all (flushed a b es) (out (Some k) room)
+  flush-full e es = sym (put-all-full es room') ∙ ap (λ (x : Option ℕ). put_all es (out x room')) (sym e) ∙ flush-then es
 
-  pub flush-on : (n : ℕ) → d ≡ All n → (es : List Event) → put_all es (out (All n) room') ≡ put_all (flushed a b es) (out (All k) room)
-  flush-on n e es = ap (λ (x : Drained). put_all es (out x room')) (sym e) ∙ flush-then es
+  pub flush-on : (n : ℕ) → d ≡ Some n → (es : List Event) → put_all es (out (Some n) room') ≡ put_all (flushed a b es) (out (Some k) room)
+  flush-on n e es = ap (λ (x : Option ℕ). put_all es (out x room')) (sym e) ∙ flush-then es
 
 -- what is answered of one event behind n others
-module _ (e : Event) (n : ℕ) (room room' : List ℕ) (d : Drained) (puts : out d room' ≡ put e (All n) room) where
-  pub put_full : d ≡ Full → (es : List Event) → out Full room' ≡ put_all (e ∷ es) (out (All n) room)
+module _ (e : Event) (n : ℕ) (room room' : List ℕ) (d : Option ℕ) (puts : out d room' ≡ put e (Some n) room) where
+  pub put_full : d ≡ None → (es : List Event) → out None room' ≡ put_all (e ∷ es) (out (Some n) room)
   unfolding put_all
-  put_full f es = sym (put-all-full es room') ∙ ap (λ (x : Drained). put_all es (out x room')) (sym f) ∙ ap (λ (s : Out). put_all es s) puts
+  put_full f es = sym (put-all-full es room') ∙ ap (λ (x : Option ℕ). put_all es (out x room')) (sym f) ∙ ap (λ (s : Out). put_all es s) puts
 
-  pub put_on : (m : ℕ) → d ≡ All m → (es : List Event) → put_all es (out (All m) room') ≡ put_all (e ∷ es) (out (All n) room)
+  pub put_on : (m : ℕ) → d ≡ Some m → (es : List Event) → put_all es (out (Some m) room') ≡ put_all (e ∷ es) (out (Some n) room)
   unfolding put_all
-  put_on m f es = ap (λ (x : Drained). put_all es (out x room')) (sym f) ∙ ap (λ (s : Out). put_all es s) puts
+  put_on m f es = ap (λ (x : Option ℕ). put_all es (out x room')) (sym f) ∙ ap (λ (s : Out). put_all es s) puts
 
 -- one event of the queue behind the Str from a to before b
 module _ (a b : ℕ) (e : Event) (es : List Event) (s : Out) where
@@ -82,7 +79,7 @@ module _ (a b : ℕ) (e : Event) (es : List Event) (s : Out) where
 -- the loop's invariant: the events that are left, behind what is held, give what all give
 pub record Head (queue : List ℕ) (n : ℕ) (room₀ room : List ℕ) (h : Held) (i : ℕ) : Type 0 where
   pub inside : i ≤ n
-  pub same : rest (drop i (events n queue)) (progress.On h) room ≡ put_all (drain (events n queue)) (out (All 0) room₀)
+  pub same : rest (drop i (events n queue)) (Some h) room ≡ put_all (drain (events n queue)) (out (Some 0) room₀)
   pub length_same : length room ≡ length room₀
 
 pub head_first : (queue : List ℕ) (n : ℕ) (room : List ℕ) → Head queue n room room (record { count = 0; start = 0; end = 0 }) 0
@@ -91,18 +88,18 @@ head_first queue n room = record { inside = omega arith; same = refl; length_sam
 
 module _ (queue : List ℕ) (n : ℕ) (room₀ room : List ℕ) (h : Held) (i : ℕ) (head : Head queue n room₀ room h i) where
   -- a turn
-  module _ (inside : i < n) (e : Event) (is : e ≡ event_at queue i) (r : Progress) (room' : List ℕ)
-      (turns : (es : List Event) → rest es r room' ≡ put_all (drained h.start h.end (e ∷ es)) (out (All h.count) room)) where
-    next : rest (drop (i + 1) (events n queue)) r room' ≡ put_all (drain (events n queue)) (out (All 0) room₀)
+  module _ (inside : i < n) (e : Event) (is : e ≡ event_at queue i) (r : Option Held) (room' : List ℕ)
+      (turns : (es : List Event) → rest es r room' ≡ put_all (drained h.start h.end (e ∷ es)) (out (Some h.count) room)) where
+    next : rest (drop (i + 1) (events n queue)) r room' ≡ put_all (drain (events n queue)) (out (Some 0) room₀)
     unfolding rest
-    next = turns (drop (i + 1) (events n queue)) ∙ ap (λ (l : List Event). put_all (drained h.start h.end l) (out (All h.count) room)) (sym left) ∙ head.same
+    next = turns (drop (i + 1) (events n queue)) ∙ ap (λ (l : List Event). put_all (drained h.start h.end l) (out (Some h.count) room)) (sym left) ∙ head.same
       where
         left : drop i (events n queue) ≡ e ∷ drop (i + 1) (events n queue)
         left =
             drop-cons (events n queue) i (event_at queue i) (omega (arith, rows-length event_at n queue))
             ∙ (λ t. ◌∷◌ ((rows_at event_at n queue i (event_at queue i) inside ∙ sym is) t) (drop (sym (add-one i) t) (events n queue)))
 
-    pub head-next : (h' : Held) → r ≡ progress.On h' → length room' ≡ length room → Head queue n room₀ room' h' (i + 1)
+    pub head-next : (h' : Held) → r ≡ Some h' → length room' ≡ length room → Head queue n room₀ room' h' (i + 1)
     head-next h' on l =
         record {
           inside = omega arith;
@@ -110,24 +107,24 @@ module _ (queue : List ℕ) (n : ℕ) (room₀ room : List ℕ) (h : Held) (i : 
           length_same = l ∙ head.length_same;
         }
 
-    pub head-full : r ≡ progress.Full → out Full room' ≡ put_all (drain (events n queue)) (out (All 0) room₀)
+    pub head-full : r ≡ None → out None room' ≡ put_all (drain (events n queue)) (out (Some 0) room₀)
     unfolding rest
     head-full full = rw full at next
 
   -- at the end of the queue
-  pub head-last : n ≤ i → (d : Drained) (room' : List ℕ) → out d room' ≡ put_all (flushed h.start h.end []) (out (All h.count) room)
-      → out d room' ≡ put_all (drain (events n queue)) (out (All 0) room₀)
+  pub head-last : n ≤ i → (d : Option ℕ) (room' : List ℕ) → out d room' ≡ put_all (flushed h.start h.end []) (out (Some h.count) room)
+      → out d room' ≡ put_all (drain (events n queue)) (out (Some 0) room₀)
   unfolding rest drained
   head-last l d room' flushes =
       flushes
-      ∙ ap (λ (es : List Event). put_all (drained h.start h.end es) (out (All h.count) room)) (sym none)
+      ∙ ap (λ (es : List Event). put_all (drained h.start h.end es) (out (Some h.count) room)) (sym none)
       ∙ head.same
     where
       none : drop i (events n queue) ≡ []
       none = drop_of_length-le (events n queue) {i = i} (omega (arith, rows-length event_at n queue))
 
 -- what was put out is what is to be handed out
-module _ (es : List Event) (room room' : List ℕ) (d : Drained) (same : out d room' ≡ put_all es (out (All 0) room)) where
+module _ (es : List Event) (room room' : List ℕ) (d : Option ℕ) (same : out d room' ≡ put_all es (out (Some 0) room)) where
   pub drained-answer : (d ≡ answered (length es) (length room / event_numbers)) × (room' ≡ handed es room)
   drained-answer =
       let e = same ∙ put-all-room es room in (ap (λ (s : Out). s.answer) e, ap (λ (s : Out). s.room) e)

@@ -1,4 +1,5 @@
 -- Events put into a room one by one come to `answered` and `handed`.
+use Rattle.std.specs.Prelude.{None, Some}
 use Prim.Native.Nat.{ℕ, suc, ◌+◌, ◌-◌, ◌*◌, ◌/◌, ◌≤◌, ◌<◌}
 use mathlib.Core.Path.{◌≡◌, refl, sym, ap, ◌∙◌}
 use mathlib.Core.List.{List, [], ◌∷◌, ◌++◌, append_assoc}
@@ -13,7 +14,6 @@ use Rattle.reading.specs.declared.Event.{Event}
 use Rattle.reading.specs.Events.{event_numbers}
 use Rattle.reading.specs.Questions.{record_of, numbers}
 use Rattle.listing.proofs.Listed.{numbers-length}
-use Rattle.drain.specs.declared.Drained.TheVariants.{All, Full}
 use Rattle.drain.specs.Handing.{answered, handed}
 use Rattle.drain.specs.Storing.{Out, out, put, put_all}
 
@@ -23,18 +23,18 @@ put-all-append [] ys s = refl
 put-all-append (x ∷ xs) ys s = put-all-append xs ys (put x s.answer s.room)
 
 -- a full room stays as it is
-pub put-all-full : (es : List Event) (room : List ℕ) → put_all es (out Full room) ≡ out Full room
+pub put-all-full : (es : List Event) (room : List ℕ) → put_all es (out None room) ≡ out None room
 unfolding put_all put
 put-all-full [] room = refl
 put-all-full (e ∷ es) room = put-all-full es room
 
 -- one event, where the room holds it and where not
 module _ (e : Event) (k : ℕ) (room : List ℕ) where
-  pub put_in : k < length room / event_numbers → put e (All k) room ≡ out (All (suc k)) (sets room (k * event_numbers) (numbers (e ∷ [])))
+  pub put_in : k < length room / event_numbers → put e (Some k) room ≡ out (Some (suc k)) (sets room (k * event_numbers) (numbers (e ∷ [])))
   unfolding put
   put_in h = rw (lt-ltb k (length room / event_numbers) h, put)
 
-  pub put-out : length room / event_numbers ≤ k → put e (All k) room ≡ out Full room
+  pub put-out : length room / event_numbers ≤ k → put e (Some k) room ≡ out None room
   unfolding put
   put-out h = rw (le-ltb k (length room / event_numbers) h, put)
 
@@ -74,17 +74,17 @@ handed-more e es room h =
     fewer : length room / event_numbers ≡ suc (length (drop event_numbers room) / event_numbers)
     fewer = rw (length-drop event_numbers room) (div-eq-sub-div {m = event_numbers} {n = length room} (omega arith) h ∙ add-one ((length room - event_numbers) / event_numbers))
 
-answered-all : (k cap : ℕ) → k ≤ cap → answered k cap ≡ All k
+answered-all : (k cap : ℕ) → k ≤ cap → answered k cap ≡ Some k
 unfolding answered
 answered-all k cap h = rw (le-leb k cap h, answered)
 
-answered-full : (k cap : ℕ) → cap < k → answered k cap ≡ Full
+answered-full : (k cap : ℕ) → cap < k → answered k cap ≡ None
 unfolding answered
 answered-full k cap h = rw (lt-leb k cap h, answered)
 
 abbrev PutAll : List Event → ℕ → List ℕ → List ℕ → Type 0
 PutAll es k pre post =
-    put_all es (out (All k) (pre ++ post)) ≡ out (answered (k + length es) (length (pre ++ post) / event_numbers)) (pre ++ handed es post)
+    put_all es (out (Some k) (pre ++ post)) ≡ out (answered (k + length es) (length (pre ++ post) / event_numbers)) (pre ++ handed es post)
 
 -- behind k events, which take up the part of the room before the rest
 module _ (k : ℕ) (pre post : List ℕ) (l : length pre ≡ k * event_numbers) where
@@ -100,7 +100,7 @@ module _ (k : ℕ) (pre post : List ℕ) (l : length pre ≡ k * event_numbers) 
     unfolding put_all
     put-all-out h =
         rw (put-out e k (pre ++ post) h, put-all-full es (pre ++ post), answered-full (k + suc (length es)) (length (pre ++ post) / event_numbers) (omega arith))
-        (λ t. out Full (pre ++ sym (handed-full (e ∷ es) post short) t))
+        (λ t. out None (pre ++ sym (handed-full (e ∷ es) post short) t))
       where
         short : length post < event_numbers
         short = omega (arith, length-append pre post, lt-div-mul-add {a = length (pre ++ post)} {b = event_numbers} (omega arith))
@@ -109,7 +109,7 @@ module _ (k : ℕ) (pre post : List ℕ) (l : length pre ≡ k * event_numbers) 
     unfolding put_all
     put-all-in h ih =
         rw (put_in e k (pre ++ post) h)
-        (ap (λ (room : List ℕ). put_all es (out (All (suc k)) room)) stored
+        (ap (λ (room : List ℕ). put_all es (out (Some (suc k)) room)) stored
         ∙ ih
         ∙ (λ t. out (answered (counted t) (longer t / event_numbers)) (whole t)))
       where
@@ -142,5 +142,5 @@ all-put (e ∷ es) k pre post l =
     go (no h) ih = put-all-out k pre post l e es (omega arith)
 
 -- all of them, from the room's front
-pub put-all-room : (es : List Event) (room : List ℕ) → put_all es (out (All 0) room) ≡ out (answered (length es) (length room / event_numbers)) (handed es room)
+pub put-all-room : (es : List Event) (room : List ℕ) → put_all es (out (Some 0) room) ≡ out (answered (length es) (length room / event_numbers)) (handed es room)
 put-all-room es room = rw zero-add at (all-put es 0 [] room refl)

@@ -1,14 +1,12 @@
 -- What is answered of events that are handed out, and what stands in their room at the end.
-use Rattle.std.specs.Prelude.{ℕ, ◌/◌, List, ◌++◌, true, false, leb, length, take, drop}
+use Rattle.std.specs.Prelude.{ℕ, ◌/◌, List, ◌++◌, true, false, leb, length, take, drop, Option, Some, None}
 use Rattle.reading.specs.declared.Event.{Event}
 use Rattle.reading.specs.Events.{event_numbers}
 use Rattle.reading.specs.Questions.{numbers}
-use Rattle.drain.specs.declared.Drained.{Drained}
-use Rattle.drain.specs.declared.Drained.TheVariants.{All, Full}
 
 -- of k events and a room for so many
-unfoldable pub answered : ℕ → ℕ → Drained
-answered k cap = elim (leb k cap) [ true ↦ All k | false ↦ Full ]
+unfoldable pub answered : ℕ → ℕ → Option ℕ
+answered k cap = elim (leb k cap) [ true ↦ Some k | false ↦ None ]
 
 -- as many events from the front as the room holds, and the rest of the room as it was
 unfoldable pub handed : List Event → List ℕ → List ℕ

@@ -10,13 +10,6 @@ ghost use Rattle.drain.specs.Storing.{out, put, put_all, rest};
 
 use reading::{EVENT_NUMBERS, Event, Link, NO_HOME, Place, kind};
 
-// All events were handed out, so many; or the room was full before the last.
-#[derive(Clone, Copy)]
-pub enum Drained {
-    All(usize),
-    Full,
-}
-
 // How many events were handed out, and the Str behind them that may still grow.
 #[derive(Clone, Copy)]
 struct Held {
@@ -25,15 +18,9 @@ struct Held {
     end: u32,
 }
 
-// After an event of the queue.
-#[derive(Clone, Copy)]
-enum Progress {
-    On(Held),
-    Full,
-}
-
-// The events of a queue of n records.
-pub fn drain(queue: &[u32], n: usize, room: &mut [u32]) -> Drained
+// The events of a queue of n records: so many are handed out; or none, if the room is full before the last.
+// The queue is a lent room and a count (document 01, "What changes shape").
+pub fn drain(queue: &[u32], n: usize, room: &mut [u32]) -> Option<usize>
     requires { n * queue_numbers ≤ length queue.now }
     ensures value { result ≡ answered (length (drain (events n queue.now))) (length room.old / event_numbers) }
     ensures room_after { room.new ≡ handed (drain (events n queue.now)) room.old }
@@ -43,20 +30,15 @@ pub fn drain(queue: &[u32], n: usize, room: &mut [u32]) -> Drained
         start: 0,
         end: 0,
     };
-    let mut i = 0;
-    while i < n {
-        let Progress::On(next) = drain_event(room, h, rooms::event_at(queue, i)) else {
-            return Drained::Full;
-        };
-        h = next;
-        i += 1;
+    for i in 0..n {
+        h = drain_event(room, h, rooms::event_at(queue, i))?;
     }
     flush(room, h)
 }
 
 // One event of the queue: a Str grows the one before it if it touches.
-fn drain_event(room: &mut [u32], h: Held, e: Event) -> Progress
-    ensures { (es : List Event) → rest es result room.new ≡ put_all (drained h.start h.end (e ∷ es)) (out (Drained.All h.count) room.old) }
+fn drain_event(room: &mut [u32], h: Held, e: Event) -> Option<Held>
+    ensures { (es : List Event) → rest es result room.new ≡ put_all (drained h.start h.end (e ∷ es)) (out (Some h.count) room.old) }
 {
     let start = e.start;
     let end = e.end;
@@ -64,16 +46,14 @@ fn drain_event(room: &mut [u32], h: Held, e: Event) -> Progress
         return drain_other(room, h, e);
     }
     if h.end == start.0 {
-        return Progress::On(Held {
+        return Some(Held {
             count: h.count,
             start: h.start,
             end: end.0,
         });
     }
-    let Drained::All(count) = flush(room, h) else {
-        return Progress::Full;
-    };
-    Progress::On(Held {
+    let count = flush(room, h)?;
+    Some(Held {
         count: count,
         start: start.0,
         end: end.0,
@@ -81,17 +61,13 @@ fn drain_event(room: &mut [u32], h: Held, e: Event) -> Progress
 }
 
 // One that is no Str.
-fn drain_other(room: &mut [u32], h: Held, e: Event) -> Progress
-    ensures { (es : List Event) → rest es result room.new ≡ put_all (flushed h.start h.end (e ∷ drained e.end.0 e.end.0 es)) (out (Drained.All h.count) room.old) }
+fn drain_other(room: &mut [u32], h: Held, e: Event) -> Option<Held>
+    ensures { (es : List Event) → rest es result room.new ≡ put_all (flushed h.start h.end (e ∷ drained e.end.0 e.end.0 es)) (out (Some h.count) room.old) }
 {
     let end = e.end;
-    let Drained::All(flushed) = flush(room, h) else {
-        return Progress::Full;
-    };
-    let Drained::All(count) = hand_out(room, flushed, e) else {
-        return Progress::Full;
-    };
-    Progress::On(Held {
+    let flushed = flush(room, h)?;
+    let count = hand_out(room, flushed, e)?;
+    Some(Held {
         count: count,
         start: end.0,
         end: end.0,
@@ -99,11 +75,11 @@ fn drain_other(room: &mut [u32], h: Held, e: Event) -> Progress
 }
 
 // The Str that was held, if it is not empty.
-fn flush(room: &mut [u32], h: Held) -> Drained
-    ensures { out result room.new ≡ put_all (flushed h.start h.end []) (out (Drained.All h.count) room.old) }
+fn flush(room: &mut [u32], h: Held) -> Option<usize>
+    ensures { out result room.new ≡ put_all (flushed h.start h.end []) (out (Some h.count) room.old) }
 {
     if h.start == h.end {
-        return Drained::All(h.count);
+        return Some(h.count);
     }
     hand_out(room, h.count, str_of(h.start, h.end))
 }
@@ -124,12 +100,12 @@ fn str_of(start: u32, end: u32) -> Event
 }
 
 // One event behind count others, if the room holds it.
-fn hand_out(room: &mut [u32], count: usize, e: Event) -> Drained
-    ensures { out result room.new ≡ put e (Drained.All count) room.old }
+fn hand_out(room: &mut [u32], count: usize, e: Event) -> Option<usize>
+    ensures { out result room.new ≡ put e (Some count) room.old }
 {
     if count < room.len() / EVENT_NUMBERS {
         listing::store(room, count, e);
-        return Drained::All(count + 1);
+        return Some(count + 1);
     }
-    Drained::Full
+    None
 }

@@ -1,5 +1,6 @@
 -- The leaves' values as numbers, for callers in other languages.
-use Rattle.std.specs.Prelude.{ℕ, ◌+◌, List, [], ◌∷◌, ◌++◌, map, true, false, ltb, get_or}
+use Rattle.std.specs.Prelude.{ℕ, ◌+◌, List, [], ◌∷◌, ◌++◌, map, true, false, ltb, get_or, Option, Some, None}
+use Rattle.lex.specs.declared.lex.Token.{Token}
 use Rattle.lex.specs.declared.lex.Kind.{Kind}
 use Rattle.lex.specs.declared.lex.Kind.TheVariants.{Text, Newline, Nbsp, Hardbreak, Escape, Open, Close, Sym, Seq}
 use Rattle.lex.specs.declared.lex.Delimiter.{Delimiter}
@@ -9,14 +10,10 @@ use Rattle.lex.specs.declared.lex.Symbol.{Symbol}
 use Rattle.lex.specs.declared.lex.Symbol.TheVariants.{Asterisk, Caret, ExclaimBracket, Lt, Pipe, Quote1, Quote2, Tilde, Underscore, Colon}
 use Rattle.lex.specs.declared.lex.Sequence.{Sequence}
 use Rattle.lex.specs.declared.lex.Sequence.TheVariants.{Backtick, Hyphen, Period}
-use Rattle.lex.specs.declared.lex.Next.{Next}
-use Rattle.lex.specs.declared.lex.Next.TheVariants as next
 use Rattle.lex.specs.declared.lex.Cursor.{Cursor}
 use Rattle.lex.specs.declared.lex.Lexed.{Lexed}
 use Rattle.attr.specs.declared.attr.State.{State}
 use Rattle.attr.specs.declared.attr.State.TheVariants as state
-use Rattle.scan.specs.declared.Ahead.{Ahead}
-use Rattle.scan.specs.declared.Ahead.TheVariants as ahead
 use Rattle.dash.specs.declared.Dashes.{Dashes}
 use Rattle.dash.specs.declared.Dots.{Dots}
 use Rattle.exports.specs.declared.Mark.{Mark}
@@ -56,19 +53,18 @@ unfoldable pub validator_state : ℕ → State
 validator_state n = elim (ltb n 18) [ true ↦ get_or states n state.Start | false ↦ state.Invalid ]
 
 -- the delimiters, symbols and sequences in their order in the source
-unfoldable pub delimiters : List Delimiter
+abbrev pub delimiters : List Delimiter
 delimiters =
     Brace ∷ BraceAsterisk ∷ BraceCaret ∷ BraceEqual ∷ BraceHyphen ∷ BracePlus ∷ BraceTilde ∷ BraceUnderscore ∷ Bracket ∷ BraceQuote1 ∷ BraceQuote2 ∷ Paren ∷ []
 
-unfoldable pub symbols : List Symbol
+abbrev pub symbols : List Symbol
 symbols = Asterisk ∷ Caret ∷ ExclaimBracket ∷ Lt ∷ Pipe ∷ Quote1 ∷ Quote2 ∷ Tilde ∷ Underscore ∷ Colon ∷ []
 
-unfoldable pub sequences : List Sequence
+abbrev pub sequences : List Sequence
 sequences = Backtick ∷ Hyphen ∷ Period ∷ []
 
 -- the kinds by their numbers
 unfoldable pub kinds : List Kind
-unfolding delimiters symbols sequences
 kinds =
     (Text ∷ Newline ∷ Nbsp ∷ Hardbreak ∷ Escape ∷ [])
     ++ map Open delimiters
@@ -120,13 +116,13 @@ kind_number (Sym s) = 29 + symbol_number s
 kind_number (Seq q) = 39 + sequence_number q
 
 -- a token, or none, which is 42
-abbrev pub mark_of : Next → Mark
-mark_of (next.Some t) = record { kind = kind_number t.kind; len = t.len }
-mark_of next.None = record { kind = 42; len = 0 }
+abbrev pub mark_of : Option Token → Mark
+mark_of (Some t) = record { kind = kind_number t.kind; len = t.len }
+mark_of None = record { kind = 42; len = 0 }
 
 -- and back: 42 and every larger number is none
-unfoldable pub token_of : Mark → Next
-token_of m = elim (ltb m.kind 42) [ true ↦ next.Some (record { kind = get_or kinds m.kind Text; len = m.len }) | false ↦ next.None ]
+unfoldable pub token_of : Mark → Option Token
+token_of m = elim (ltb m.kind 42) [ true ↦ Some (record { kind = get_or kinds m.kind Text; len = m.len }) | false ↦ None ]
 
 abbrev pub cursor_of : CursorNumbers → Cursor
 cursor_of s = record { pos = s.pos; escape = s.escape; next = token_of s.next; verbatim = s.verbatim }
@@ -138,9 +134,9 @@ abbrev pub step_of : Lexed → Step
 step_of l = record { token = mark_of l.token; state = state_of l.cursor }
 
 -- what a scan found, and its length, 0 where it found nothing
-abbrev pub scanned_of : Ahead → Scanned
-scanned_of (ahead.Some n) = record { found = true; len = n }
-scanned_of ahead.None = record { found = false; len = 0 }
+abbrev pub scanned_of : Option ℕ → Scanned
+scanned_of (Some n) = record { found = true; len = n }
+scanned_of None = record { found = false; len = 0 }
 
 abbrev pub dash_counts : Dashes → Counts
 dash_counts d = record { first = d.em; second = d.en }

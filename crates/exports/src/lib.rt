@@ -1,7 +1,7 @@
 #![tactic(auto)]
-// What the comparison with the Rust calls, besides the C interface: the leaves, with tokens and cursors as numbers, and the reader on two number slices.
-// `exports_c` has them under their C names.
-ghost use Rattle.std.specs.Prelude.{◌≡◌, ◌+◌, ◌/◌, ◌≤◌, ◌<◌, length, drop};
+// What the comparison with the Rust calls, besides the C interface: the leaves, with tokens and
+// cursors as numbers, and the reader on two number slices. `exports_c` has them under their C names.
+ghost use Rattle.std.specs.Prelude.{◌≡◌, ◌+◌, ◌/◌, ◌≤◌, length, drop};
 ghost use Rattle.attr.specs.Attributes.{fed};
 ghost use Rattle.lex.specs.Lexer.{fresh_of, peek_of, next_of};
 ghost use Rattle.scan.specs.Scans.{autolink_of, symbol_of, footnote_of, raw_format_of};
@@ -11,15 +11,15 @@ ghost use Rattle.reading.specs.Questions.{total, outcome};
 ghost use Rattle.reading.specs.Walked.{Accepted, AcceptedHomes};
 ghost use Rattle.inline.specs.Lines.{lines_of};
 ghost use Rattle.outcome.specs.Outcomes.{rooms_of, outcome_of};
-ghost use Rattle.exports.specs.Numbers.{delimiter_number, symbol_number, sequence_number, kind_number, mark_of, token_of, cursor_of, state_of, step_of};
+ghost use Rattle.exports.specs.Numbers.{kind_number, mark_of, token_of, cursor_of, state_of, step_of};
 ghost use Rattle.exports.specs.Numbers.{validator_number, validator_state, scanned_of, dash_counts, dot_counts};
 
 use attr::{State, Validator};
-use lex::{Cursor, Delimiter, Kind, Lexed, Next, Sequence, Symbol, Token};
+use dash::{Dashes, Dots};
+use lex::{Cursor, Delimiter, Kind, Lexed, Sequence, Symbol, Token};
 use reading::Answer;
-use scan::Ahead;
 
-// The kinds by their numbers.
+// The kinds by their numbers: the way back from `kind_number`, since no number is cast to a variant.
 const KINDS: [Kind; 42] = [
     Kind::Text,
     Kind::Newline,
@@ -65,7 +65,7 @@ const KINDS: [Kind; 42] = [
     Kind::Seq(Sequence::Period),
 ];
 
-// The states of the attribute validator by their numbers.
+// The states of the attribute validator by their numbers, likewise.
 const STATES: [State; 18] = [
     State::Start,
     State::Whitespace,
@@ -129,55 +129,6 @@ pub struct Counts {
     pub second: usize,
 }
 
-fn delimiter_number(d: Delimiter) -> u32
-    ensures value { result ≡ delimiter_number d }
-    ensures upper_bound { result < 12 }
-{
-    match d {
-        Delimiter::Brace => 0,
-        Delimiter::BraceAsterisk => 1,
-        Delimiter::BraceCaret => 2,
-        Delimiter::BraceEqual => 3,
-        Delimiter::BraceHyphen => 4,
-        Delimiter::BracePlus => 5,
-        Delimiter::BraceTilde => 6,
-        Delimiter::BraceUnderscore => 7,
-        Delimiter::Bracket => 8,
-        Delimiter::BraceQuote1 => 9,
-        Delimiter::BraceQuote2 => 10,
-        Delimiter::Paren => 11,
-    }
-}
-
-fn symbol_number(s: Symbol) -> u32
-    ensures value { result ≡ symbol_number s }
-    ensures upper_bound { result < 10 }
-{
-    match s {
-        Symbol::Asterisk => 0,
-        Symbol::Caret => 1,
-        Symbol::ExclaimBracket => 2,
-        Symbol::Lt => 3,
-        Symbol::Pipe => 4,
-        Symbol::Quote1 => 5,
-        Symbol::Quote2 => 6,
-        Symbol::Tilde => 7,
-        Symbol::Underscore => 8,
-        Symbol::Colon => 9,
-    }
-}
-
-fn sequence_number(s: Sequence) -> u32
-    ensures value { result ≡ sequence_number s }
-    ensures upper_bound { result < 3 }
-{
-    match s {
-        Sequence::Backtick => 0,
-        Sequence::Hyphen => 1,
-        Sequence::Period => 2,
-    }
-}
-
 fn kind_number(kind: Kind) -> u32
     ensures { result ≡ kind_number kind }
 {
@@ -187,207 +138,179 @@ fn kind_number(kind: Kind) -> u32
         Kind::Nbsp => 2,
         Kind::Hardbreak => 3,
         Kind::Escape => 4,
-        Kind::Open(d) => 5 + delimiter_number(d),
-        Kind::Close(d) => 17 + delimiter_number(d),
-        Kind::Sym(s) => 29 + symbol_number(s),
-        Kind::Seq(s) => 39 + sequence_number(s),
+        Kind::Open(d) => 5 + d as u32,
+        Kind::Close(d) => 17 + d as u32,
+        Kind::Sym(s) => 29 + s as u32,
+        Kind::Seq(s) => 39 + s as u32,
     }
 }
 
-fn validator_number(state: State) -> u32
-    ensures { result ≡ validator_number state }
-{
-    match state {
-        State::Start => 0,
-        State::Whitespace => 1,
-        State::CommentFirst => 2,
-        State::Comment => 3,
-        State::CommentNewline => 4,
-        State::ClassFirst => 5,
-        State::Class => 6,
-        State::IdentifierFirst => 7,
-        State::Identifier => 8,
-        State::Key => 9,
-        State::ValueFirst => 10,
-        State::Value => 11,
-        State::ValueQuoted => 12,
-        State::ValueEscape => 13,
-        State::ValueNewline => 14,
-        State::ValueContinued => 15,
-        State::Done => 16,
-        State::Invalid => 17,
+impl From<Option<Token>> for Mark {
+    ghost from_gives = { λ next m. m ≡ mark_of next };
+
+    fn from(next: Option<Token>) -> Mark {
+        match next {
+            Some(t) => Mark {
+                kind: kind_number(t.kind),
+                len: t.len,
+            },
+            None => Mark { kind: 42, len: 0 },
+        }
     }
 }
 
+impl From<Mark> for Option<Token> {
+    ghost from_gives = { λ m next. next ≡ token_of m };
+
+    #[tactic(auto, unfolding(crate::specs::Numbers::kinds, crate::specs::Numbers::token_of))]
+    fn from(m: Mark) -> Option<Token> {
+        let kind = *KINDS.get(m.kind as usize)?;
+        Some(Token { kind, len: m.len })
+    }
+}
+
+impl From<CursorNumbers> for Cursor {
+    ghost from_gives = { λ s c. c ≡ cursor_of s };
+
+    fn from(s: CursorNumbers) -> Cursor {
+        Cursor {
+            pos: s.pos,
+            escape: s.escape,
+            next: s.next.into(),
+            verbatim: s.verbatim,
+        }
+    }
+}
+
+impl From<Cursor> for CursorNumbers {
+    ghost from_gives = { λ c s. s ≡ state_of c };
+
+    fn from(c: Cursor) -> CursorNumbers {
+        CursorNumbers {
+            pos: c.pos,
+            escape: c.escape,
+            verbatim: c.verbatim,
+            next: c.next.into(),
+        }
+    }
+}
+
+impl From<Lexed> for Step {
+    ghost from_gives = { λ l s. s ≡ step_of l };
+
+    fn from(l: Lexed) -> Step {
+        Step {
+            token: l.token.into(),
+            state: l.cursor.into(),
+        }
+    }
+}
+
+impl From<Option<usize>> for Scanned {
+    ghost from_gives = { λ a s. s ≡ scanned_of a };
+
+    fn from(a: Option<usize>) -> Scanned {
+        match a {
+            Some(len) => Scanned { found: true, len },
+            None => Scanned {
+                found: false,
+                len: 0,
+            },
+        }
+    }
+}
+
+impl From<Dashes> for Counts {
+    ghost from_gives = { λ d c. c ≡ dash_counts d };
+
+    fn from(d: Dashes) -> Counts {
+        Counts {
+            first: d.em,
+            second: d.en,
+        }
+    }
+}
+
+impl From<Dots> for Counts {
+    ghost from_gives = { λ d c. c ≡ dot_counts d };
+
+    fn from(d: Dots) -> Counts {
+        Counts {
+            first: d.ellipses,
+            second: d.rest,
+        }
+    }
+}
+
+#[tactic(auto, unfolding(crate::specs::Numbers::states, crate::specs::Numbers::validator_state))]
 fn validator_state(n: u32) -> State
     ensures { result ≡ validator_state n }
 {
-    if n < 18 {
-        let state = STATES[n as usize];
-        return state;
-    }
-    State::Invalid
-}
-
-fn mark_of(next: Next) -> Mark
-    ensures { result ≡ mark_of next }
-{
-    match next {
-        Next::Some(t) => {
-            let kind = t.kind;
-            Mark {
-                kind: kind_number(kind),
-                len: t.len,
-            }
-        }
-        Next::None => Mark { kind: 42, len: 0 },
-    }
-}
-
-fn token_of(m: Mark) -> Next
-    ensures { result ≡ token_of m }
-{
-    let n = m.kind;
-    if n < 42 {
-        let kind = KINDS[n as usize];
-        Next::Some(Token {
-            kind: kind,
-            len: m.len,
-        })
-    } else {
-        Next::None
-    }
-}
-
-fn cursor_of(s: CursorNumbers) -> Cursor
-    ensures { result ≡ cursor_of s }
-{
-    let m = s.next;
-    Cursor {
-        pos: s.pos,
-        escape: s.escape,
-        next: token_of(m),
-        verbatim: s.verbatim,
-    }
-}
-
-fn state_of(c: Cursor) -> CursorNumbers
-    ensures { result ≡ state_of c }
-{
-    let next = c.next;
-    CursorNumbers {
-        pos: c.pos,
-        escape: c.escape,
-        verbatim: c.verbatim,
-        next: mark_of(next),
-    }
-}
-
-fn step_of(l: Lexed) -> Step
-    ensures { result ≡ step_of l }
-{
-    let token = l.token;
-    let cursor = l.cursor;
-    Step {
-        token: mark_of(token),
-        state: state_of(cursor),
-    }
+    STATES.get(n as usize).copied().unwrap_or(State::Invalid)
 }
 
 pub fn mivurakol_cursor(pos: usize, verbatim: bool) -> CursorNumbers
     ensures { result ≡ state_of (fresh_of pos verbatim) }
 {
-    state_of(Cursor::new(pos, verbatim))
+    Cursor::new(pos, verbatim).into()
 }
 
 pub fn mivurakol_peek(src: &[u8], s: CursorNumbers) -> Step
     ensures { result ≡ step_of (peek_of src.now (cursor_of s)) }
 {
-    let flags = classes::classes();
-    step_of(lexer::peek_token(src, cursor_of(s), &flags))
+    lexer::peek_token(src, s.into()).into()
 }
 
 pub fn mivurakol_next(src: &[u8], s: CursorNumbers) -> Step
     ensures { result ≡ step_of (next_of src.now (cursor_of s)) }
 {
-    let flags = classes::classes();
-    step_of(lexer::next_token(src, cursor_of(s), &flags))
-}
-
-fn scanned_of(a: Ahead) -> Scanned
-    ensures { result ≡ scanned_of a }
-{
-    match a {
-        Ahead::Some(len) => Scanned {
-            found: true,
-            len: len,
-        },
-        Ahead::None => Scanned {
-            found: false,
-            len: 0,
-        },
-    }
+    lexer::next_token(src, s.into()).into()
 }
 
 pub fn mivurakol_autolink(src: &[u8], from: usize) -> Scanned
     ensures { result ≡ scanned_of (autolink_of (drop from src.now)) }
 {
-    let flags = classes::classes();
-    scanned_of(scan::ahead_autolink(src, from, &flags))
+    scan::ahead_autolink(src, from).into()
 }
 
 pub fn mivurakol_symbol(src: &[u8], from: usize) -> Scanned
     ensures { result ≡ scanned_of (symbol_of (drop from src.now)) }
 {
-    let flags = classes::classes();
-    scanned_of(scan::ahead_symbol(src, from, &flags))
+    scan::ahead_symbol(src, from).into()
 }
 
 pub fn mivurakol_footnote(src: &[u8], from: usize) -> Scanned
     ensures { result ≡ scanned_of (footnote_of (drop from src.now)) }
 {
-    let flags = classes::classes();
-    scanned_of(scan::ahead_footnote(src, from, &flags))
+    scan::ahead_footnote(src, from).into()
 }
 
 pub fn mivurakol_raw_format(src: &[u8], from: usize) -> Scanned
     ensures { result ≡ scanned_of (raw_format_of (drop from src.now)) }
 {
-    let flags = classes::classes();
-    scanned_of(scan::ahead_raw_format(src, from, &flags))
+    scan::ahead_raw_format(src, from).into()
 }
 
 // The attribute validator, from a state on.
 pub fn mivurakol_validate(bytes: &[u8], state: u32) -> u32
     ensures { result ≡ validator_number (fed bytes.now (validator_state state)) }
 {
-    let flags = classes::classes();
     let before = Validator {
         state: validator_state(state),
     };
-    let v = before.parse(bytes, &flags);
-    let behind = v.state;
-    validator_number(behind)
+    before.parse(bytes).state as u32
 }
 
 pub fn mivurakol_hyphens(len: usize) -> Counts
     ensures { result ≡ dash_counts (dashes_of len) }
 {
-    let d = dash::split_hyphens(len);
-    Counts {
-        first: d.em,
-        second: d.en,
-    }
+    dash::split_hyphens(len).into()
 }
 
 pub fn mivurakol_periods(len: usize) -> Counts
     ensures { result ≡ dot_counts (dots_of len) }
 {
-    let d = dash::split_periods(len);
-    Counts {
-        first: d.ellipses,
-        second: d.rest,
-    }
+    dash::split_periods(len).into()
 }
 
 // `reader::read`.

@@ -1,8 +1,10 @@
 -- The call: what is asked of the reader's answer, the definition's outcome, and what is claimed of it.
+use Rattle.std.specs.Prelude.{None, Option, Some}
+use Rattle.reading.specs.declared.Place.{Place}
 use Prim.Native.Nat.{ℕ, ◌+◌, ◌-◌, ◌*◌, ◌/◌, ◌^◌, ◌≤◌, ◌<◌}
 use mathlib.Core.Path.{◌≡◌, refl, sym, ap, ◌∙◌, subst}
 use mathlib.Core.List.{List}
-use mathlib.Core.Bool.{Bool, true, false}
+use mathlib.Core.Bool.{Bool}
 use native.Mathlib.Omega.{arith}
 use borrow.Author.Tests.{leb-true, leb-false, eqb-true, eqb-false}
 use lib.Dec.{leb, eqb}
@@ -10,11 +12,8 @@ use lib.ListN.{length, replicate, length-append}
 use Rattle.reading.specs.declared.Line.{Line}
 use Rattle.reading.specs.declared.Event.{Event}
 use Rattle.reading.specs.declared.Answer.{Answer}
-use Rattle.reading.specs.declared.Refused.{Refused}
-use Rattle.reading.specs.declared.Refused.TheVariants as refused
 use Rattle.reading.specs.Events.{event_numbers}
 use Rattle.reading.specs.Machine.{Sheet, State}
-use Rattle.reading.specs.Draining.{drain}
 use Rattle.reading.specs.Reading.{sheet, read, end_of}
 use Rattle.reading.specs.Questions.{Rooms, Outcome, total, label_room, numbers, filled, cleared, handed_out, outcome, judged as judged-reader}
 use Rattle.reading.specs.Walked.{Whole, AcceptedHomes, events}
@@ -32,27 +31,23 @@ use Rattle.verdict.specs.Judging.{Listed}
 abbrev Few : Outcome → Type 0
 Few o = o.answer.code ≤ 9
 
-few-judged : (r : Refused) (b : Bool) (s : State) (rooms : Rooms) → Few (judged-reader r b s rooms)
+few-judged : (r : Option Place) (b : Bool) (s : State) (rooms : Rooms) → Few (judged-reader r b s rooms)
 unfolding judged-reader handed_out
-few-judged (refused.At p) b s rooms = omega arith
-few-judged refused.No false s rooms = omega arith
-few-judged refused.No true s rooms = choose Few (leb (length (drain s.queue)) (length rooms.events / event_numbers)) _ _ (λ t. omega arith) (λ t. omega arith)
+few-judged r b s rooms = grind arith
 
 -- 10 and 11 zero the rooms, whatever they hold
-judged-cleared : (b : Refused) (f : List ℕ) (rooms rooms' : Rooms) (o : Outcome) (out : List ℕ) → cleared rooms ≡ cleared rooms'
+judged-cleared : (b : Option Place) (f : List ℕ) (rooms rooms' : Rooms) (o : Outcome) (out : List ℕ) → cleared rooms ≡ cleared rooms'
     → judged b f rooms o out ≡ judged b f rooms' o out
 unfolding judged
-judged-cleared (refused.At p) f rooms rooms' o out e = ap (λ (r : Rooms). refuses 10 p.0 r out) e
-judged-cleared refused.No f rooms rooms' o out e =
-    choose₂ (λ (u w : Fragmented). u ≡ w) (leb (length f) (length out)) _ _ _ _ (λ t. refl) (λ t. ap (λ (r : Rooms). refuses 11 0 r out) e)
+judged-cleared b f rooms rooms' o out e = grind (arith, e)
 
 -- what holds of both refusals and of a fragment that is written
-by-room : (P : Fragmented → Type 0) (b : Refused) (f : List ℕ) (rooms : Rooms) (o : Outcome) (out : List ℕ)
+by-room : (P : Fragmented → Type 0) (b : Option Place) (f : List ℕ) (rooms : Rooms) (o : Outcome) (out : List ℕ)
     → ((at : ℕ) → P (refuses 10 at (cleared rooms) out)) → (length out < length f → P (refuses 11 0 (cleared rooms) out))
     → (length f ≤ length out → P (record { answer = acceptance o.answer (length f); rooms = o.rooms; out = filled f out })) → P (judged b f rooms o out)
 unfolding judged
-by-room P (refused.At p) f rooms o out ten eleven none = ten p.0
-by-room P refused.No f rooms o out ten eleven none =
+by-room P (Some p) f rooms o out ten eleven none = ten p.0
+by-room P None f rooms o out ten eleven none =
     choose P (leb (length f) (length out)) _ _ (λ t. none (leb-true (length f) (length out) t)) (λ t. eleven (leb-false (length f) (length out) t))
 
 module _ (text : List ℕ) (ls : List Line) (reading : ℕ) (rooms : Rooms) where

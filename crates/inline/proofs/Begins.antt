@@ -1,6 +1,6 @@
 -- What is known where a line begins and within it: the invariant of the definition, and rooms for all lines.
 use Prim.Native.Nat.{ℕ, suc, ◌+◌, ◌-◌, ◌*◌, ◌^◌, ◌≤◌, ◌<◌}
-use mathlib.Core.Path.{◌≡◌, sym, ap, ◌∙◌, subst}
+use mathlib.Core.Path.{◌≡◌, refl, sym, ap, ◌∙◌, subst}
 use mathlib.Core.List.{List, [], ◌∷◌}
 use native.Mathlib.Omega.{arith}
 use lib.ListN.{length, get_or, take, drop}
@@ -18,9 +18,8 @@ use Rattle.reading.proofs.Feeding.{Rising, Apart, view-long, view-shows, begun-h
 use Rattle.reading.proofs.Stopping.{moment-held}
 use Rattle.reading.proofs.Theorems.{rising, free, front, back, halves, behind}
 use Rattle.rooms.specs.declared.Parser.{Parser}
-use Rattle.rooms.specs.declared.Margin.{Margin}
-use Rattle.rooms.specs.Standing.{turn, viewed}
-use Rattle.inline.specs.Asks.{Lined, Sheeted}
+use Rattle.rooms.specs.Steps.{turn}
+use Rattle.inline.specs.Asks.{Amid, Lined, Sheeted}
 use Rattle.inline.specs.Lines.{none}
 
 -- lines one behind another are no longer than the text
@@ -38,17 +37,16 @@ links-lines x text a (l ∷ ls) r s =
     omega (arith, links-lines x text l.end ls r.3 (line_of x v s), links-line x v s, view-long text l r.1 r.2)
 
 -- what is known within a line
-pub record Begins (text line : List ℕ) (m : Margin) (p : Parser) (q o l : List ℕ) : Type 0 where
+pub record Begins (text : List ℕ) (v : View) (p : Parser) : Type 0 where
   pub count : ℕ
-  pub held : Held Any text (viewed m line) count 0 (turn p q o l)
-  pub shows : Shows text (viewed m line)
-  pub small : m.base + length line ≤ 1048576
-  pub few : count + length line ≤ 1048576
-  pub room : (count + length line) * 8 ≤ length q
-  pub stack : (count + length line) * 4 ≤ length o
-  pub labels : p.labels ≤ length l
-  pub label_room : length l < 2 ^ 32
-  pub links : p.links.0 + length line ≤ 4194304
+  pub held : Held Any text v count 0 (turn p)
+  pub shows : Shows text v
+  pub small : v.base + length v.bytes ≤ 1048576
+  pub few : count + length v.bytes ≤ 1048576
+  pub room : (count + length v.bytes) * 8 ≤ length p.queue.now
+  pub stack : (count + length v.bytes) * 4 ≤ length p.openers.now
+  pub label_room : length p.labels.now < 2 ^ 32
+  pub links : p.at.links.0 + length v.bytes ≤ 4194304
 
 module _ (text : List ℕ) (reading : ℕ) (q o l : List ℕ) (ls : List Line) (w : Sheeted text ls q o l) (i : ℕ) where
   abbrev x : Sheet
@@ -104,35 +102,41 @@ module _ (text : List ℕ) (reading : ℕ) (q o l : List ℕ) (ls : List Line) (
     pub line-held : Held Any text v (total (take i ls)) 0 (begun x v given)
     line-held = begun-held Any text x v (end_of (take i ls) 0) (total (take i ls)) given next-gap before-stood
 
-    -- behind so many steps of it
-    pub begins : (k : ℕ) → k ≤ 2 * length v.bytes → (p : Parser) → turn p q o l ≡ steps k x v (begun x v given) → p.labels ≤ length l
-        → (line : List ℕ) (m : Margin) → viewed m line ≡ v → Begins text line m p q o l
-    begins k most p same labels line m seen =
-        let base : m.base ≡ here.start = ap (λ (w : View). w.base) seen in
-        let bytes : length line ≡ length v.bytes = ap (λ (w : View). length w.bytes) seen in
-        let long : length line ≡ here.end - here.start = bytes ∙ view-long text here next-ordered next-within in
+    -- behind so many steps of it, of a parser in these rooms
+    pub begins : (k : ℕ) → k ≤ 2 * length v.bytes → (p : Parser) → p.queue.now ≡ q → p.openers.now ≡ o → p.labels.now ≡ l
+        → turn p ≡ steps k x v (begun x v given) → (u : View) → u ≡ v → Begins text u p
+    begins k most p isq iso isl same u seen =
+        let long : length v.bytes ≡ here.end - here.start = view-long text here next-ordered next-within in
         let few = rising-total text 0 ls (omega arith) up in
         let held = moment-held x v text (total (take i ls)) next-shows (begun x v given) line-held k in
+        subst (λ (w : View). Begins text w p) (sym seen)
         record {
           count = total (take i ls);
-          held = subst (λ (w : View). Held Any text w (total (take i ls)) 0 (turn p q o l)) (sym seen)
-              (subst (λ (a : Turn). Held Any text v (total (take i ls)) 0 a) (sym same) held);
-          shows = subst (λ (w : View). Shows text w) (sym seen) next-shows;
-          small = omega (arith, base, long, next-ordered, next-within, w.small);
+          held = subst (λ (a : Turn). Held Any text v (total (take i ls)) 0 a) (sym same) held;
+          shows = next-shows;
+          small = omega (arith, long, next-ordered, next-within, w.small);
           few = omega (arith, long, next-total, few, w.small);
-          room = omega (arith, long, next-total, w.room);
-          stack = omega (arith, long, next-total, w.stack);
-          labels = labels;
-          label_room = w.label_room;
-          links = omega (arith, ap (λ (a : Turn). a.state.links.0) same, links-steps k x v (begun x v given), before-links, most, bytes, long, next-total, few, w.small);
+          room = rw isq (omega (arith, long, next-total, w.room));
+          stack = rw iso (omega (arith, long, next-total, w.stack));
+          label_room = rw isl w.label_room;
+          links = omega (arith, ap (λ (a : Turn). a.state.links.0) same, links-steps k x v (begun x v given), before-links, most, long, next-total, few, w.small);
         }
 
-pub lined-begins : (text line : List ℕ) (m : Margin) (reading : ℕ) (p : Parser) (q o l : List ℕ) → Lined text line m reading p q o l
-    → Begins text line m p q o l
-lined-begins text line m reading p q o l w =
+pub lined-begins : (text : List ℕ) (v : View) (reading : ℕ) (p : Parser) → Lined text v reading p → Begins text v p
+lined-begins text v reading p w =
     let a = w.amid in
     let f = a.fed in
     let b = f.behind in
-    begins text reading q o l f.all b.asks f.index b.some w.here f.is a.count a.few p
-    (subst (λ (s : State). turn p q o l ≡ steps a.count (sheet text f.all reading (length l)) (view_of text w.here) (begun (sheet text f.all reading (length l)) (view_of text w.here) s)) b.same a.same)
-    w.labels line m w.seen
+    begins text reading p.queue.now p.openers.now p.labels.now f.all b.asks f.index b.some w.here f.is a.count a.few p refl refl refl
+    (subst
+    (λ (s : State). turn p ≡ steps a.count (sheet text f.all reading (length p.labels.now)) (view_of text w.here)
+    (begun (sheet text f.all reading (length p.labels.now)) (view_of text w.here) s)) b.same a.same)
+    v w.seen
+
+-- a line that is fed is of the text
+module _ (text : List ℕ) (here : Line) (reading : ℕ) (a : Turn) (q o l : List ℕ) (w : Amid text here reading a q o l) where
+  pub fed-ordered : here.start ≤ here.end
+  fed-ordered = let f = w.fed in next-ordered text reading q o l f.all f.behind.asks f.index f.behind.some here f.is
+
+  pub fed-within : here.end ≤ length text
+  fed-within = let f = w.fed in next-within text reading q o l f.all f.behind.asks f.index f.behind.some here f.is

@@ -1,166 +1,129 @@
 -- One token: what it asks of the layers below, and that their answer is the definition's step.
-use Prim.Native.Nat.{ℕ, zero, suc, ◌+◌, ◌-◌, ◌*◌, ◌≤◌}
+use Rattle.std.specs.Prelude.{None, Option, Some}
+use Prim.Native.Nat.{ℕ, ◌+◌, ◌≤◌}
 use mathlib.Core.Path.{◌≡◌, refl, sym, ap, ◌∙◌, subst}
-use mathlib.Core.List.{List, []}
+use mathlib.Core.List.{List}
 use mathlib.Core.Logic.{inl, inr, ⊎_elim}
-use mathlib.Core.Bool.{true}
 use native.Mathlib.Omega.{arith}
-use lib.Dec.{leb}
-use lib.ListN.{length, get_or}
-use Rattle.lex.specs.declared.lex.Cursor.{Cursor}
+use lib.ListN.{length}
+use Rattle.lex.specs.declared.lex.Kind.TheVariants as kinds
 use Rattle.lex.specs.declared.lex.Token.{Token}
-use Rattle.lex.specs.declared.lex.Next.TheVariants as next
 use Rattle.lex.specs.declared.lex.Lexed.{Lexed}
 use Rattle.lex.specs.Lexer.{next_of}
 use Rattle.reading.specs.declared.Place.{Place}
-use Rattle.reading.specs.declared.Last.{Last}
-use Rattle.reading.specs.declared.Refused.{Refused}
-use Rattle.reading.specs.declared.Refused.TheVariants as refused
 use Rattle.reading.specs.declared.Role.{Role}
+use Rattle.reading.specs.declared.Role.TheVariants as roles
+use Rattle.reading.specs.Events.{str}
 use Rattle.reading.specs.declared.Verbatim.{Verbatim}
-use Rattle.reading.specs.declared.Inside.{Inside}
-use Rattle.reading.specs.declared.Inside.TheVariants as inside
-use Rattle.reading.specs.Machine.{noting, byte_before, View, Sheet, State, Turn, rules_of, no_str}
-use Rattle.reading.specs.Tokens.{role_of}
+use Rattle.reading.specs.Machine.{View, Sheet, Here, rules_of, put}
+use Rattle.reading.specs.Tokens.{role_of, plain}
+use Rattle.reading.specs.Containers.{tried, opens_or}
 use Rattle.reading.specs.Verbatim.{in_verbatim, ended_at}
-use Rattle.reading.specs.Reading.{outside, by_place, here_at, on_token, step, start, unasked}
+use Rattle.reading.specs.Reading.{outside, by_place, here_at, on_token, step, unasked}
+use Rattle.reading.proofs.Ends.{seek-none}
 use Rattle.reading.proofs.Places.{HereOk, here-ok}
 use Rattle.rooms.specs.declared.Parser.{Parser}
-use Rattle.rooms.specs.declared.Margin.{Margin}
 use Rattle.rooms.specs.declared.Span.{Span}
-use Rattle.rooms.specs.Rows.{rows, stack}
-use Rattle.rooms.specs.Standing.{fresh_of, stands, turn, viewed, here, moved, staying, Changed, Stepped, Fits}
+use Rattle.rooms.specs.Standing.{Fits}
+use Rattle.rooms.specs.Steps.{state, turn, staying, Room}
 use Rattle.verbatim.specs.Opened.{Opened, OpenedBy}
-use Rattle.containers.specs.Ready.{Ready, LabelRoom}
+use Rattle.containers.specs.Ready.{Ready}
 use Rattle.outside.specs.Outside.{Ending, Ended}
-use Rattle.inline.specs.Asks.{Before, over_of, ending, Closing}
+use Rattle.outside.proofs.Single.{text-role}
+use Rattle.inline.specs.Asks.{Before, ending, Closing}
 
-module _ (text : List ℕ) (reading : ℕ) (line : List ℕ) (m : Margin) (p : Parser) (q o l : List ℕ) (b : Before line m p q o l) (a : Lexed)
-    (isa : a ≡ next_of line p.cursor) where
+module _ (text : List ℕ) (reading : ℕ) (v : View) (p : Parser) (b : Before v p) (a : Lexed) (isa : a ≡ next_of v.bytes p.at.cursor) where
   abbrev x : Sheet
-  x = unasked text reading (length l)
-
-  abbrev v : View
-  v = viewed m line
-
-  abbrev one : State → Turn
-  one s = step x v (record { cursor = p.cursor; state = s })
+  x = unasked text reading (length p.labels.now)
 
   -- the step, by the token that was taken
-  by_token : (r : Parser) (q' o' l' : List ℕ) → turn r q' o' l' ≡ on_token x v (turn p q o l) a.token a.cursor → r.labels ≤ length l'
-      → Stepped p q o l r q' o' l' one
-  by_token r q' o' l' e n =
-      record { same = subst (λ (y : Lexed). turn r q' o' l' ≡ on_token x v (turn p q o l) y.token y.cursor) isa e; labels = n }
+  by_token : on_token x v (turn p) a.token a.cursor ≡ step x v (turn p)
+  by_token = ap (λ (y : Lexed). on_token x v (turn p) y.token y.cursor) isa
 
-  pub event-none : a.token ≡ next.None → Stepped p q o l p q o l one
+  pub event-none : a.token ≡ None → turn p ≡ step x v (turn p)
   unfolding on_token
-  event-none e = by_token p q o l (sym (rw (e, on_token))) b.labels
+  event-none e = sym (ap (λ (y : Option Token). on_token x v (turn p) y a.cursor) e) ∙ by_token
 
-  module _ (t : Token) (ist : a.token ≡ next.Some t) where
+  module _ (t : Token) (ist : a.token ≡ Some t) where
     abbrev h : Span
-    h = record { from = p.cursor.pos; to = p.cursor.pos + t.len }
+    h = record { from = p.at.cursor.pos; to = p.at.cursor.pos + t.len }
 
-    ok : HereOk v (here_at p.cursor t (next_of line p.cursor).cursor)
-    ok = here-ok v p.cursor t b.sound (subst (λ (y : Lexed). y.token ≡ next.Some t) isa ist)
+    abbrev there : Here
+    there = record { from = h.from; to = h.to; cursor = a.cursor }
 
-    pub event-within : p.cursor.pos + t.len ≤ length line
+    ok : HereOk v (here_at p.at.cursor t (next_of v.bytes p.at.cursor).cursor)
+    ok = here-ok v p.at.cursor t b.sound (subst (λ (y : Lexed). y.token ≡ Some t) isa ist)
+
+    pub event-within : p.at.cursor.pos + t.len ≤ length v.bytes
     event-within = ok.within
 
-    module _ (u : Parser) (isu : u ≡ moved p a.cursor) where
-      there : u ≡ moved p (next_of line p.cursor).cursor
-      there = isu ∙ ap (λ (y : Lexed). moved p y.cursor) isa
+    pub event-fits : Fits v h
+    event-fits = record { ordered = omega (arith, ok.long); within = ok.within; small = b.small }
 
-      pub event-ready : Ready line m h u q o
-      event-ready =
-          subst (λ (y : Parser). Ready line m h y q o) (sym there)
-          record {
-            long = ok.long;
-            within = ok.within;
-            small = b.small;
-            place = ok.place;
-            sound = ok.sound;
-            room = b.room;
-            few = b.few;
-            shallow = b.shallow;
-            stack = b.stack;
-            named = b.named;
-          }
+    pub event-room : Room 1 p
+    event-room = omega (arith, b.room, ok.long, ok.within)
 
-      pub event-label-room : LabelRoom u l
-      event-label-room = subst (λ (y : Parser). LabelRoom y l) (sym there) record { labels = b.labels; room = b.label_room; links = b.links }
+    -- u is the parser at the cursor behind the token
+    pub event-ready : (u : Parser) → u.at.cursor ≡ a.cursor → u.at.events ≡ p.at.events → u.at.openers ≡ p.at.openers → u.queue ≡ p.queue
+        → u.openers ≡ p.openers → Ready v h u
+    event-ready u c e n q o =
+        record {
+          long = ok.long;
+          within = ok.within;
+          small = b.small;
+          place = rw (c, isa) ok.place;
+          sound = rw (c, isa) ok.sound;
+          room = rw (e, q) b.room;
+          few = rw e b.few;
+          shallow = rw n b.shallow;
+          stack = rw (n, o) b.stack;
+          named = rw (e, n, o) b.named;
+        }
 
-      pub event-ended : p.inside ≡ inside.No → Ended u q
-      event-ended e =
-          subst (λ (y : Parser). Ended y q) (sym there)
-          (⊎_elim
-          (λ (z : p.last.dollars ≡ 0). inl z)
-          (λ (w : Ending p q). inr record { some = w.some; within = w.within; ends = w.ends })
-          (b.ended e))
+    pub event-ended : p.at.inside ≡ None → (u : Parser) → u.at.events ≡ p.at.events → u.at.last ≡ p.at.last → u.queue ≡ p.queue → Ended u
+    event-ended e u n l q =
+        ⊎_elim
+        (λ (z : p.at.last.dollars ≡ 0). inl (rw l z))
+        (λ (w : Ending p). inr record { some = rw n w.some; within = rw (n, l, q) w.within; ends = rw l w.ends })
+        (b.ended e)
 
-      pub event-fits : Fits line m h
-      event-fits = record { ordered = omega (arith, ok.long); within = ok.within; small = b.small }
+    pub event-opened : (w : Verbatim) → p.at.inside ≡ Some w → (u : Parser) → u.at.events ≡ p.at.events → u.queue ≡ p.queue → Opened w u
+    unfolding OpenedBy
+    event-opened w e u n q =
+        let k = subst (λ (y : Option Verbatim). OpenedBy y p) e b.opened in
+        record { low = k.low; high = rw n k.high; enters = rw q k.enters; below = rw q k.below }
 
-      pub event-opened : (w : Verbatim) → p.inside ≡ inside.Verbatim w → Opened w u q
-      unfolding OpenedBy
-      event-opened w e =
-          let k = subst (λ (y : Inside). OpenedBy y p q) e b.opened in
-          subst (λ (y : Parser). Opened w y q) (sym there) record { low = k.low; high = k.high; enters = k.enters; below = k.below }
+    -- the token at its place
+    placed : (w : Option Verbatim) → p.at.inside ≡ w → by_place x v there t w (state p) ≡ step x v (turn p)
+    unfolding on_token
+    placed w e =
+        sym (ap (λ (y : Option Verbatim). by_place x v there t y (state p)) e)
+        ∙ sym (ap (λ (y : Option Token). on_token x v (turn p) y a.cursor) ist)
+        ∙ by_token
 
-      pub event-room : (u.events + 1) * 8 ≤ length q
-      event-room = subst (λ (y : Parser). (y.events + 1) * 8 ≤ length q) (sym there) (omega (arith, b.room, ok.long, ok.within))
+    pub event-outside : p.at.inside ≡ None → (y : Role) → y ≡ role_of t.kind → outside x v there y (state p) ≡ step x v (turn p)
+    unfolding by_place
+    event-outside e y isy = ap (λ (z : Role). outside x v there z (state p)) isy ∙ placed None e
 
-      -- the token at its place, with the state of the parser before it
-      module _ (r : Parser) (q' o' l' : List ℕ) where
-        placed : (w : Inside) → p.inside ≡ w → turn r q' o' l' ≡ by_place x v (record { from = h.from; to = h.to; cursor = a.cursor }) t w (stands p q o l)
-            → r.labels ≤ length l' → Stepped p q o l r q' o' l' one
-        unfolding on_token
-        placed w e s n = by_token r q' o' l' (s ∙ sym (rw (ist, on_token) (ap (λ (y : Inside). by_place x v (record { from = h.from; to = h.to; cursor = a.cursor }) t y (stands p q o l)) e))) n
+    -- text is what it is alone
+    pub event-text : p.at.inside ≡ None → t.kind ≡ kinds.Text → record { cursor = a.cursor; state = put v str h.from h.to (state p) } ≡ step x v (turn p)
+    unfolding tried opens_or outside
+    event-text e k =
+        sym (rw (seek-none (state p).openers) refl)
+        ∙ event-outside e (roles.Other (plain str)) (sym (text-role t.kind k))
 
-        pub event-outside : p.inside ≡ inside.No → (y : Role) → y ≡ role_of t.kind → Stepped u q o l r q' o' l' (outside x v (here h u) y)
-            → Stepped p q o l r q' o' l' one
-        unfolding by_place
-        event-outside e y isy s =
-            let k = subst (λ (z : Role). Stepped u q o l r q' o' l' (outside x v (here h u) z)) isy s in
-            let j = subst (λ (z : Parser). Stepped z q o l r q' o' l' (outside x v (here h z) (role_of t.kind))) isu k in
-            placed inside.No e j.same j.labels
-
-      pub event-verbatim : (r : Parser) (q' : List ℕ) (w : Verbatim) → p.inside ≡ inside.Verbatim w
-          → Changed u q o r q' o (in_verbatim (rules_of reading) v (here h u) t w) → Stepped p q o l r q' o l one
-      unfolding by_place
-      event-verbatim r q' w e c =
-          let k = subst (λ (z : Parser). Changed z q o r q' o (in_verbatim (rules_of reading) v (here h z) t w)) isu c in
-          placed r q' o l (inside.Verbatim w) e (k.same l) (omega (arith, k.labels, b.labels))
-
--- what is known of a line beside its bytes
-pub margin-first : (text : List ℕ) (a : ℕ) → a ≡ 0 → ◌≡◌ {A = Margin} (record { base = 0; before = 0 }) (record { base = a; before = byte_before text a })
-margin-first text a e = rw e
-
-pub margin-later : (text : List ℕ) (a : ℕ) → (a ≡ 0 → ⊥) → ◌≡◌ {A = Margin} (record { base = a; before = get_or text (a - 1) 0 }) (record { base = a; before = byte_before text a })
-margin-later text zero ne = absurd (ne refl)
-margin-later text (suc a) ne = let z : suc a - 1 ≡ a = omega arith in rw z
-
--- the test of a line's end
-pub over-refused : (n pos : ℕ) (r : Refused) (a : Place) → r ≡ refused.At a → true ≡ over_of n pos r
-unfolding over_of
-over-refused n pos r a e = sym (ap (over_of n pos) e)
-
-pub over-at : (n pos : ℕ) (r : Refused) → r ≡ refused.No → leb n pos ≡ over_of n pos r
-unfolding over_of
-over-at n pos r e = sym (ap (over_of n pos) e)
+    pub event-verbatim : (w : Verbatim) → p.at.inside ≡ Some w → in_verbatim (rules_of reading) v there t w (state p) ≡ step x v (turn p)
+    unfolding by_place
+    event-verbatim w e = placed (Some w) e
 
 -- the end of a refused sheet, and of any other
-module _ (b : ℕ) (p : Parser) (q : List ℕ) where
-  pub end_refused : (a : Place) → p.refused ≡ refused.At a → Closing p.refused p q → (o : List ℕ) → Changed p q o p q o (staying p (ending b))
+module _ (b : ℕ) (p : Parser) where
+  pub end_refused : (a : Place) → p.at.refused ≡ Some a → Closing p.at.refused p → turn p ≡ staying p (ending b) (state p)
   unfolding Closing ended_at
-  end_refused a e c o =
-      let k = subst (λ (y : Refused). Closing y p q) e c in
-      record { same = λ l. sym (ap (λ (y : Inside). record { cursor = p.cursor; state = ended_at b y (stands p q o l) }) k); labels = refl }
+  end_refused a e c =
+      let k = subst (λ (y : Option Place). Closing y p) e c in
+      sym (ap (λ (y : Option Verbatim). record { cursor = p.at.cursor; state = ended_at b y (state p) }) k)
 
-  pub end-opened : p.refused ≡ refused.No → Closing p.refused p q → OpenedBy p.inside p q
+  pub end-opened : p.at.refused ≡ None → Closing p.at.refused p → OpenedBy p.at.inside p
   unfolding Closing
-  end-opened e c = subst (λ (y : Refused). Closing y p q) e c
-
--- a fresh parser stands for the start
-pub fresh-stands : (c : Cursor) (n : Last) → n ≡ no_str → (q o l : List ℕ) → stands (fresh_of c n) q o l ≡ start
-unfolding rows stack
-fresh-stands c n e q o l = ap (λ (x : Last). noting [] x start) e
+  end-opened e c = subst (λ (y : Option Place). Closing y p) e c

@@ -1,318 +1,155 @@
 #![tactic(auto)]
-// The parser of `inline.rs` over lent rooms: one token, the tokens of a line, all lines, and the end. At a brace a line stops: whoever has the lines asks
-// whether an attribute block stands there, and if not the line goes on behind it.
-ghost use Rattle.std.specs.Prelude.{◌≡◌, false, List, ℕ, ◌+◌, ◌^◌, ◌≤◌, ◌<◌, length, get_or};
-ghost use Rattle.classes.specs.Classes.{Ruled};
+// The parser of `inline.rs` over lent rooms: one token, the tokens of a line, and the end. At a brace a line stops: whoever has the lines asks whether
+// an attribute block stands there, and if not the line goes on behind it.
+ghost use Rattle.std.specs.Prelude.{◌≡◌, ◌^◌, ◌≤◌, ◌<◌, length, false};
 ghost use Rattle.lex.specs.Lexer.{fresh_of};
 ghost use Rattle.attr.specs.Attributes.{fed};
 ghost use Rattle.reading.specs.Machine.{byte_before, view_of};
-ghost use Rattle.reading.specs.Blocks.{block_at};
-ghost use Rattle.reading.specs.Reading.{step, steps, line as line_of, views, resumed, read as read_of, start, sheet, unasked};
+ghost use Rattle.reading.specs.Reading.{step, steps, resumed, start, unasked};
 ghost use Rattle.verbatim.specs.Opened.{Begun};
-ghost use Rattle.rooms.specs.Standing.{stands, turn, viewed, Stepped, Changed, Room, staying};
-ghost use Rattle.inline.specs.Asks.{Before, Lined, Behind, Amid, BraceAt, Within, Sheeted, StandsFor, ending, over_of, Closing};
-ghost use Rattle.inline.specs.Lines.{lines_of, none};
+ghost use Rattle.rooms.specs.Standing.{viewed};
+ghost use Rattle.rooms.specs.Steps.{state, turn, Stepped, Queued, Room, staying, turning};
+ghost use Rattle.inline.specs.Asks.{Before, Lined, Amid, BraceAt, ending, over_of, Closing};
 
 use attr::Validator;
-use lex::{Cursor, Kind, Next};
-use reading::{Inside, Place, Refused, kind};
-use rooms::{Margin, Parser, Span};
+use lex::{Cursor, Kind};
+use reading::{Place, kind};
+use rooms::{Parser, Span, View};
 
 // The next token of the line, if there is one.
-fn parse_event(
-    text: &[u8],
-    line: &[u8],
-    m: Margin,
-    reading: u32,
-    p: Parser,
-    queue: &mut [u32],
-    openers: &mut [u32],
-    labels: &mut [u8],
-    flags: &[u8; 256],
-) -> Parser
-    requires before { Before line.now m p queue.old openers.old labels.old }
-    requires ruled { Ruled flags.now }
-    ensures { Stepped p queue.old openers.old labels.old result queue.new openers.new
-        labels.new (λ s. step (unasked text.now reading (length labels.old)) (viewed m line.now)
-        (record { cursor = p.cursor; state = s })) }
+fn parse_event(p: &mut Parser, text: &[u8], v: &View, reading: u32)
+    requires { Before (viewed v.now) p.old }
+    ensures { Stepped p.old p.new (turning p.old (step (unasked text.now reading (length p.old.labels.now)) (viewed v.now))) }
 {
-    let c = p.cursor;
-    let lexed = lexer::next_token(line, c, flags);
-    let behind = lexed.cursor;
-    let next = lexed.token;
-    let Next::Some(t) = next else {
-        return p;
+    let from = p.at.cursor.pos;
+    let lexed = lexer::next_token(v.bytes, p.at.cursor);
+    let Some(t) = lexed.token else {
+        return;
     };
+    p.at.cursor = lexed.cursor;
     let h = Span {
-        from: c.pos,
-        to: c.pos + t.len,
+        from,
+        to: from + t.len,
     };
-    let out = rooms::moved(p, behind);
-    let kind = t.kind;
-    let w = p.inside;
-    match w {
-        Inside::No => match kind {
-            Kind::Text => atoms::put(line, m, kind::STR, h, out, queue),
-            _ => outside::outside(
-                text,
-                line,
-                m,
-                h,
-                tables::role_of(kind),
-                out,
-                queue,
-                openers,
-                labels,
-                flags,
-            ),
+    match p.at.inside {
+        Some(w) => verbatim::in_verbatim(p, v, h, t, w, reading),
+        None => match t.kind {
+            Kind::Text => atoms::put(p, v, kind::STR, h),
+            _ => outside::outside(p, text, v, h, tables::role_of(t.kind)),
         },
-        Inside::Verbatim(v) => verbatim::in_verbatim(line, m, h, t, v, reading, out, queue, flags),
     }
 }
 
 // The line is at its end, or the sheet is refused.
-fn over(n: usize, p: Parser) -> bool
-    ensures { result ≡ over_of n p.cursor.pos p.refused }
+#[tactic(auto, unfolding(crate::specs::Asks::over_of))]
+fn over(p: &Parser, n: usize) -> bool
+    ensures { result ≡ over_of n p.now.at.cursor.pos p.now.at.refused }
 {
-    let c = p.cursor;
-    let refused = p.refused;
-    match refused {
-        Refused::At(_) => true,
-        Refused::No => n <= c.pos,
+    match p.at.refused {
+        Some(_) => true,
+        None => n <= p.at.cursor.pos,
     }
 }
 
 // The tokens of a line, from the cursor on, up to a brace: each takes a byte at least.
-fn read_line(
-    text: &[u8],
-    line: &[u8],
-    m: Margin,
-    reading: u32,
-    p: Parser,
-    queue: &mut [u32],
-    openers: &mut [u32],
-    labels: &mut [u8],
-    flags: &[u8; 256],
-) -> Parser
-    requires lined { Lined text.now line.now m reading p queue.old openers.old labels.old }
-    requires ruled { Ruled flags.now }
-    ensures { Stepped p queue.old openers.old labels.old result queue.new openers.new
-        labels.new (λ s. steps (length line.now) (unasked text.now reading (length labels.old)) (viewed m
-        line.now) (record { cursor = p.cursor; state = s })) }
+fn read_line(p: &mut Parser, text: &[u8], v: &View, reading: u32)
+    requires { Lined text.now (viewed v.now) reading p.old }
+    ensures { Stepped p.old p.new (turning p.old (steps (length v.now.bytes.now) (unasked text.now reading (length p.old.labels.now)) (viewed v.now))) }
 {
-    let n = line.len();
-    let mut out = p;
-    let mut left = n;
-    while 0 < left {
-        if over(n, out) {
-            return out;
+    let n = v.bytes.len();
+    for _ in 0..n {
+        if over(p, n) {
+            return;
         }
-        out = parse_event(text, line, m, reading, out, queue, openers, labels, flags);
-        left -= 1;
+        parse_event(p, text, v, reading);
     }
-    out
 }
 
-// Where a line starts, and the byte before it.
-fn margin_of(text: &[u8], start: usize) -> Margin
-    requires { start ≤ length text.now }
-    ensures { result ≡ record { base = start; before = byte_before text.now start } }
+// A line of the text, from its start to before its end.
+fn view_of(text: &[u8], start: usize, end: usize) -> View<'_>
+    requires ordered { start ≤ end }
+    requires within { end ≤ length text.now }
+    ensures { viewed result ≡ view_of text.now (record { start = start; end = end }) }
 {
-    if start == 0 {
-        return Margin { base: 0, before: 0 };
-    }
-    Margin {
+    let before = if start == 0 { 0 } else { text[start - 1] };
+    View {
+        bytes: &text[start..end],
         base: start,
-        before: text[start - 1],
+        before,
     }
 }
 
 // A line begins.
-pub fn begin_line(reading: u32, p: Parser) -> Parser
-    ensures { Begun reading p result }
+pub fn begin_line(p: &mut Parser, reading: u32)
+    ensures { Begun reading p.old p.new }
 {
-    verbatim::begun(reading, p)
+    verbatim::begun(p, reading);
 }
 
 // The tokens of a line of the text, from the cursor on, up to a brace.
-pub fn feed_line(
-    text: &[u8],
-    start: usize,
-    end: usize,
-    reading: u32,
-    p: Parser,
-    queue: &mut [u32],
-    openers: &mut [u32],
-    labels: &mut [u8],
-    flags: &[u8; 256],
-) -> Parser
-    requires amid { Amid text.now (record { start = start; end = end }) reading (turn p queue.old openers.old labels.old) queue.old openers.old
-        labels.old }
-    requires labels_in_bounds { p.labels ≤ length labels.old }
-    requires ruled { Ruled flags.now }
-    ensures { Stepped p queue.old openers.old labels.old result queue.new openers.new
-        labels.new (λ s. let v = view_of text.now (record { start = start; end = end }) in steps (length v.bytes) (unasked text.now reading (length labels.old)) v (record { cursor = p.cursor; state = s })) }
+pub fn feed_line(p: &mut Parser, text: &[u8], start: usize, end: usize, reading: u32)
+    requires { Amid text.now (record { start = start; end = end }) reading (turn p.old) p.old.queue.now p.old.openers.now p.old.labels.now }
+    ensures { Stepped p.old p.new (turning p.old (let v = view_of text.now (record { start = start; end = end }) in steps (length v.bytes) (unasked text.now reading (length p.old.labels.now)) v)) }
 {
-    let m = margin_of(text, start);
-    let line = &text[start..end];
-    read_line(text, line, m, reading, p, queue, openers, labels, flags)
+    read_line(p, text, &view_of(text, start, end), reading);
 }
 
 // Behind a brace of the line, at which no attribute block stands: it is Str.
-pub fn pass_brace(
-    text: &[u8],
-    start: usize,
-    end: usize,
-    at: Place,
-    p: Parser,
-    queue: &mut [u32],
-) -> Parser
-    requires { BraceAt text.now (record { start = start; end = end }) at p queue.old }
-    ensures { (o : List ℕ) → Changed p queue.old o result queue.new o (λ s. resumed (view_of text.now (record {
-      start =
-          start;
-      end = end;
-    })) at.0 (record { cursor = p.cursor; state = s })) }
+pub fn pass_brace(p: &mut Parser, text: &[u8], start: usize, end: usize, at: Place)
+    requires { BraceAt text.now (record { start = start; end = end }) at p.old }
+    ensures { Queued p.old p.new (turning p.old (resumed (view_of text.now (record { start = start; end = end })) at.0)) }
 {
-    let m = margin_of(text, start);
-    let line = &text[start..end];
-    let c = p.cursor;
+    let v = view_of(text, start, end);
     let brace = Span {
         from: at.0 as usize - start,
-        to: c.pos,
+        to: p.at.cursor.pos,
     };
-    atoms::put(line, m, kind::STR, brace, rooms::unrefused(p), queue)
+    p.at.refused = None;
+    atoms::put(p, &v, kind::STR, brace);
 }
 
 // A validator is fed a part of the text.
-pub fn validate(text: &[u8], start: usize, end: usize, v: Validator, flags: &[u8; 256]) -> Validator
+pub fn validate(text: &[u8], start: usize, end: usize, v: Validator) -> Validator
     requires start_le_end { start ≤ end }
     requires end_in_bounds { end ≤ length text.now }
-    requires ruled { Ruled flags.now }
     ensures { result ≡ record { state = fed (view_of text.now (record { start = start; end = end })).bytes v.state } }
 {
-    v.parse(&text[start..end], flags)
-}
-
-// Whether an attribute block stands at a brace of the i-th line: a fresh validator is fed from the brace to the line's end, then the later lines
-// whole, until it is decided.
-fn block_at(
-    text: &[u8],
-    starts: &[usize],
-    ends: &[usize],
-    i: usize,
-    at: usize,
-    flags: &[u8; 256],
-) -> bool
-    requires starts_len { length starts.now ≡ length ends.now }
-    requires within { Within text.now (lines_of starts.now ends.now) i at }
-    requires ruled { Ruled flags.now }
-    ensures { result ≡ block_at (views text.now (lines_of starts.now ends.now)) at }
-{
-    let mut v = validate(text, at, ends[i], Validator::new(), flags);
-    let mut k = i + 1;
-    while k < starts.len() {
-        if v.decided() {
-            return v.done();
-        }
-        v = validate(text, starts[k], ends[k], v, flags);
-        k += 1;
-    }
-    v.done()
-}
-
-// The i-th line. At each brace the validator is asked, once.
-fn parse_line(
-    text: &[u8],
-    starts: &[usize],
-    ends: &[usize],
-    i: usize,
-    reading: u32,
-    p: Parser,
-    queue: &mut [u32],
-    openers: &mut [u32],
-    labels: &mut [u8],
-    flags: &[u8; 256],
-) -> Parser
-    requires starts_len { length starts.now ≡ length ends.now }
-    requires behind { Behind text.now (lines_of starts.now ends.now) i reading (stands p queue.old openers.old labels.old) queue.old openers.old labels.old }
-    requires labels_in_bounds { p.labels ≤ length labels.old }
-    requires ruled { Ruled flags.now }
-    ensures { StandsFor result queue.new openers.new labels.new (line_of (sheet text.now (lines_of starts.now ends.now) reading (length labels.old)) (view_of text.now (get_or (lines_of starts.now
-        ends.now) i none)) (stands p queue.old openers.old labels.old)) }
-{
-    let before = p.refused;
-    let Refused::No = before else {
-        return p;
-    };
-    let start = starts[i];
-    let end = ends[i];
-    let mut out = begin_line(reading, p);
-    let mut left = end - start + 1;
-    while 0 < left {
-        out = feed_line(
-            text, start, end, reading, out, queue, openers, labels, flags,
-        );
-        let refused = out.refused;
-        let Refused::At(at) = refused else {
-            return out;
-        };
-        if block_at(text, starts, ends, i, at.0 as usize, flags) {
-            return out;
-        }
-        out = pass_brace(text, start, end, at, out, queue);
-        left -= 1;
-    }
-    out
+    v.parse(&text[start..end])
 }
 
 // Nothing is queued, open or refused at first.
-pub fn fresh() -> Parser
-    ensures by_index { (q o l : List ℕ) → stands result q o l ≡ start }
-    ensures labels_value { result.labels ≡ 0 }
-    ensures cursor_value { result.cursor ≡ fresh_of 0 false }
+#[tactic(auto, unfolding(rooms::specs::Rows::rows, rooms::specs::Rows::stack))]
+pub fn fresh<'q, 'o, 'l>(
+    queue: &'q mut [u32],
+    openers: &'o mut [u32],
+    labels: &'l mut [u8],
+) -> Parser<'q, 'o, 'l>
+    ensures at_start { state result ≡ start }
+    ensures cursor_value { result.at.cursor ≡ fresh_of 0 false }
+    ensures queue_lent { result.queue.ghost_name ≡ queue.entry.ghost_name }
+    ensures openers_lent { result.openers.ghost_name ≡ openers.entry.ghost_name }
+    ensures labels_lent { result.labels.ghost_name ≡ labels.entry.ghost_name }
+    ensures queue_held { result.queue.now ≡ queue.old }
+    ensures openers_held { result.openers.now ≡ openers.old }
+    ensures labels_held { result.labels.now ≡ labels.old }
 {
-    rooms::fresh(Cursor::new(0, false), atoms::no_str())
+    Parser::new(
+        Cursor::new(0, false),
+        atoms::no_str(),
+        queue,
+        openers,
+        labels,
+    )
 }
 
 // The end: a verbatim that is still open gets its exit.
-pub fn finish(end: usize, p: Parser, queue: &mut [u32]) -> Parser
+pub fn finish(p: &mut Parser, end: usize)
     requires end_bound { end < 2 ^ 32 }
-    requires room { Room 1 p queue.old }
-    requires closing { Closing p.refused p queue.old }
-    ensures { (o : List ℕ) → Changed p queue.old o result queue.new o (staying p (ending end)) }
+    requires room { Room 1 p.old }
+    requires closing { Closing p.old.at.refused p.old }
+    ensures { Queued p.old p.new (staying p.old (ending end)) }
 {
-    let refused = p.refused;
-    match refused {
-        Refused::At(_) => p,
-        Refused::No => verbatim::ended_at(Place(end as u32), p, queue),
+    if let None = p.at.refused {
+        verbatim::ended_at(p, Place(end as u32));
     }
-}
-
-// All lines of a sheet, each from its start to before its end, and the end. The cursor that is handed back is of no line any more.
-pub fn parse(
-    text: &[u8],
-    starts: &[usize],
-    ends: &[usize],
-    reading: u32,
-    queue: &mut [u32],
-    openers: &mut [u32],
-    labels: &mut [u8],
-) -> Parser
-    requires starts_len { length starts.now ≡ length ends.now }
-    requires sheeted { Sheeted text.now (lines_of starts.now ends.now) queue.old openers.old labels.old }
-    ensures { StandsFor result queue.new openers.new labels.new (read_of (sheet text.now (lines_of starts.now ends.now) reading (length labels.old)) (lines_of starts.now ends.now)) }
-{
-    let flags = classes::classes();
-    let mut p = fresh();
-    let mut end = 0;
-    let mut i = 0;
-    while i < starts.len() {
-        end = ends[i];
-        p = parse_line(
-            text, starts, ends, i, reading, p, queue, openers, labels, &flags,
-        );
-        i += 1;
-    }
-    finish(end, p, queue)
 }

@@ -1,54 +1,76 @@
 #![tactic(auto)]
 // What a program reads from its input, and the lines of a sheet, each with its newline.
-ghost use Rattle.std.specs.Prelude.{◌≡◌, ◌≤◌, length, take, IfOk};
-ghost use Rattle.std.specs.Io.KnownBytes.{Consumes};
+ghost use Rattle.std.specs.Prelude.{◌≡◌, ◌<◌, ◌≤◌, length, take, IfOk, IfSome, option_copied};
+ghost use Rattle.std.specs.Io.KnownBytes.{Consumes, IsAtEnd};
+ghost use Rattle.input.specs.Inputs.{short_input};
 ghost use Rattle.input.specs.Lines.{text_lines};
+ghost use Rattle.input.specs.Rooms.{lent, sheet_rooms};
 
-use reading::Line;
+use reading::{EVENT_NUMBERS, Line, OPENER_NUMBERS, QUEUE_NUMBERS};
 use std::io;
 use std::io::Read;
 
 // A program's input in bytes.
 pub const BYTES: usize = 1000;
 
-// Lines from the front of a room, and how many there are.
-#[derive(Clone, Copy)]
-pub struct Split {
-    pub lines: [Line; BYTES],
-    pub count: usize,
+// The rooms in which a program reads a sheet of so many bytes.
+const EVENT_ROOM: usize = (BYTES + 1) * EVENT_NUMBERS;
+
+const QUEUE_ROOM: usize = (2 * BYTES + 1) * QUEUE_NUMBERS;
+
+const OPENER_ROOM: usize = BYTES * OPENER_NUMBERS;
+
+const LABEL_ROOM: usize = 65536;
+
+#[derive(Drop)]
+pub struct SheetRooms {
+    pub events: [u32; EVENT_ROOM],
+    pub queue: [u32; QUEUE_ROOM],
+    pub openers: [u32; OPENER_ROOM],
+    pub labels: [u8; LABEL_ROOM],
 }
 
-// The lines of a text, each with its newline.
-pub fn split_lines(text: &[u8]) -> Split
-    requires { length text.now ≤ 1000 }
-    ensures count_value { result.count ≡ length (text_lines text.now) }
-    ensures lines_value { take result.count result.lines ≡ text_lines text.now }
-    ensures count_bound { result.count ≤ 1000 }
-{
-    let mut lines = [Line { start: 0, end: 0 }; BYTES];
-    let mut n = 0;
-    let mut from = 0;
-    let mut i = 0;
-    while i < text.len() {
-        let b = text[i];
-        i += 1;
-        if b == b'\n' {
-            lines[n] = Line {
-                start: from,
-                end: i,
-            };
-            n += 1;
-            from = i;
+impl SheetRooms {
+    #[tactic(auto, unfolding(crate::specs::Rooms::sheet_rooms))]
+    pub fn new() -> SheetRooms
+        ensures { lent result ≡ sheet_rooms }
+    {
+        SheetRooms {
+            events: [0; EVENT_ROOM],
+            queue: [0; QUEUE_ROOM],
+            openers: [0; OPENER_ROOM],
+            labels: [0; LABEL_ROOM],
         }
     }
-    if from < i {
-        lines[n] = Line {
-            start: from,
-            end: i,
-        };
-        n += 1;
+}
+
+// The lines of a text, each with its newline, from the front of a room.
+#[tactic(auto, using(crate::proofs::Splitting::line_steps), unfolding(crate::specs::Lines::text_lines))]
+pub fn split_lines<'a>(text: &[u8], room: &'a mut [Line]) -> &'a [Line]
+    requires { length text.now ≤ length room.old }
+    ensures { result.now ≡ text_lines text.now }
+{
+    let mut n = 0;
+    let mut from = 0;
+    for (i, b) in text.iter().enumerate() {
+        if *b == b'\n' {
+            room[n] = Line {
+                start: from,
+                end: i + 1,
+            };
+            n += 1;
+            from = i + 1;
+        }
     }
-    Split { lines, count: n }
+    if from < text.len() {
+        room[n] = Line {
+            start: from,
+            end: text.len(),
+        };
+        &room[..n + 1]
+    } else {
+        &room[..n]
+    }
 }
 
 // Bytes from a reader, until the room is full or nothing is left, and how many there are.
@@ -56,6 +78,7 @@ pub fn read_full<R: Read>(from: &mut R, room: &mut [u8]) -> io::Result<usize>
     ensures bound { IfOk result (λ n. n ≤ length room.new) }
     ensures bytes { IfOk result (λ n. Consumes (R.remaining from.old) (R.remaining from.new)
         (take n room.new)) }
+    ensures end { IfOk result (λ n. n < length room.new → IsAtEnd (R.remaining from.new)) }
 {
     let mut done = 0;
     while done < room.len() {
@@ -66,4 +89,18 @@ pub fn read_full<R: Read>(from: &mut R, room: &mut [u8]) -> io::Result<usize>
         done += n;
     }
     Ok(done)
+}
+
+// An input that is shorter than a room, read whole into its front, or none if it is as long.
+pub fn read_short<'a, R: Read>(from: &mut R, room: &'a mut [u8]) -> io::Result<Option<&'a [u8]>>
+    ensures bound { IfOk result (λ o. IfSome o (λ text. length text.now < length room.old)) }
+    ensures known { IfOk result (λ o. IfSome (R.remaining from.old)
+        (λ input. option_copied o ≡ short_input (length room.old) input)) }
+{
+    let n = read_full(from, room)?;
+    if n < room.len() {
+        Ok(Some(&room[..n]))
+    } else {
+        Ok(None)
+    }
 }

@@ -1,4 +1,5 @@
 -- A token is at least one byte and never passes the end.
+use Rattle.std.specs.Prelude.{None, Some}
 use Prim.Native.Nat.{ℕ, suc, ◌<◌}
 use Prim.Native.Char.{code}
 use mathlib.Core.Path.{◌≡◌, refl, sym, ap, ◌∙◌}
@@ -19,7 +20,6 @@ use Rattle.lex.specs.declared.lex.Kind.{Kind}
 use Rattle.lex.specs.declared.lex.Kind.TheVariants.{Text, Open, Close, Sym}
 use Rattle.lex.specs.declared.lex.Delimiter.TheVariants.{Brace}
 use Rattle.lex.specs.declared.lex.Symbol.TheVariants.{ExclaimBracket}
-use Rattle.lex.specs.declared.lex.Next.TheVariants.{Some, None}
 use Rattle.lex.specs.declared.lex.Start.{Start}
 use Rattle.lex.specs.declared.lex.Start.TheVariants as start
 pub use Rattle.lex.specs.Sound.{Sized}

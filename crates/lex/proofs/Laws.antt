@@ -1,4 +1,5 @@
 -- The laws of the lexer that its callers cite. `next-cases` is the one case analysis behind them.
+use Rattle.std.specs.Prelude.{None, Option, Some}
 use Prim.Native.Nat.{ℕ, ◌+◌, ◌≤◌, ◌<◌}
 use mathlib.Core.Path.{◌≡◌, refl, sym, ap, ◌∙◌, subst}
 use mathlib.Core.List.{List}
@@ -9,8 +10,6 @@ use lib.ListN.{length, drop, length-drop}
 use lib.Seq.{drop-drop}
 use Rattle.lex.specs.declared.lex.Token.{Token}
 use Rattle.lex.specs.declared.lex.Kind.TheVariants.{Text}
-use Rattle.lex.specs.declared.lex.Next.{Next}
-use Rattle.lex.specs.declared.lex.Next.TheVariants.{Some, None}
 use Rattle.lex.specs.declared.lex.Cursor.{Cursor}
 use Rattle.lex.specs.declared.lex.Lexed.{Lexed}
 pub use Rattle.lex.specs.Sound.{Sound}
@@ -39,14 +38,14 @@ module _ (src : List ℕ) (c : Cursor) where
     sorted n t e true k = subst P (sym (found-text src c t e k) ∙ next-free src c n) (text t e)
     sorted n t e false k = subst P (sym (found-other src c t e k) ∙ next-free src c n) (other t e)
 
-    free : c.next ≡ None → (f : Next) → lexed c.escape here ≡ f → P (next_of src c)
+    free : c.next ≡ None → (f : Option Token) → lexed c.escape here ≡ f → P (next_of src c)
     free n None e = subst P (sym (found_none src c e) ∙ next-free src c n) (ended n (omega (arith, lexed-end c.escape here e, length-drop c.pos src)))
     free n (Some t) e = sorted n t e (is_text t.kind) refl
 
     pub next-cases : P (next_of src c)
     next-cases = go c.next refl
       where
-        go : (n : Next) → c.next ≡ n → P (next_of src c)
+        go : (n : Option Token) → c.next ≡ n → P (next_of src c)
         go (Some t) e = held t e (dec_le (c.pos + t.len) (length src))
         go None e = free e (lexed c.escape here) refl
 
@@ -135,7 +134,7 @@ module _ (src : List ℕ) (c : Cursor) where
     pub peek-sounded : Sounded src c (peek_of src c)
     peek-sounded = go c.next refl
       where
-        go : (n : Next) → c.next ≡ n → Sounded src c (peek_of src c)
+        go : (n : Option Token) → c.next ≡ n → Sounded src c (peek_of src c)
         go (Some t) e =
             subst (Sounded src c) (peek-held src c t e)
             record {
@@ -167,6 +166,6 @@ pub record Peeked (c : Cursor) (r : Lexed) : Type 0 where
 pub peek-kept : (src : List ℕ) (c : Cursor) → Peeked c (peek_of src c)
 peek-kept src c = go c.next refl
   where
-    go : (n : Next) → c.next ≡ n → Peeked c (peek_of src c)
+    go : (n : Option Token) → c.next ≡ n → Peeked c (peek_of src c)
     go (Some t) e = subst (Peeked c) (peek-held src c t e) record { place = refl; verbatim = refl; held = refl }
     go None e = subst (Peeked c) (peek-free src c e) record { place = refl; verbatim = refl; held = refl }

@@ -1,6 +1,4 @@
 pub mod Tables
-pub mod Begun
-pub mod Front
 pub mod Bounds
 pub mod Texts
 pub mod Walk

@@ -1,5 +1,6 @@
 -- Worked lines, by computation: named cases of the comparison with the Rust, read without peeks. A row has the line, whether it is read in
 -- verbatim, and its tokens.
+use Rattle.std.specs.Prelude.{None, Some}
 use Prim.Native.Nat.{ℕ, zero, suc}
 use Prim.Native.String.{String}
 use mathlib.Core.Path.{◌≡◌, refl}
@@ -13,7 +14,6 @@ use Rattle.lex.specs.declared.lex.Kind.TheVariants.{Text, Newline, Nbsp, Hardbre
 use Rattle.lex.specs.declared.lex.Delimiter.TheVariants.{Brace, BraceEqual, BraceHyphen, BracePlus, Bracket, Paren}
 use Rattle.lex.specs.declared.lex.Symbol.TheVariants.{Asterisk, ExclaimBracket, Lt, Pipe, Colon}
 use Rattle.lex.specs.declared.lex.Sequence.TheVariants.{Backtick, Hyphen, Period}
-use Rattle.lex.specs.declared.lex.Next.TheVariants.{Some, None}
 use Rattle.lex.specs.declared.lex.Cursor.{Cursor}
 use Rattle.lex.specs.Lexer.{token, lookup, starts, start_of, braces, hyphens_of, begun_by, escaped_of, lexed, texts, fresh_of, found_by, taken_of}
 use Rattle.lex.specs.Lexer.{next_by, next_of}

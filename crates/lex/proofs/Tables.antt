@@ -12,16 +12,6 @@ use Rattle.lex.specs.declared.lex.Start.TheVariants as start
 use Rattle.lex.specs.Lexer.{lookup, starts, start_of, ch_of}
 
 module _ {A : Type 0} (d : A) where
-  -- a byte that is not the first
-  pub lookup-miss : (b : ℕ) (r : ℕ × A) (rs : List (ℕ × A)) → (b ≡ r.0 → ⊥) → lookup d (r ∷ rs) b ≡ lookup d rs b
-  unfolding lookup
-  lookup-miss b r rs n = rw (ne_eqb _ _ n, lookup)
-
-  -- a byte that is none
-  pub lookup-none : (b : ℕ) → lookup d [] b ≡ d
-  unfolding lookup
-  lookup-none b = refl
-
   -- what holds of every row, and of the default at every byte, holds of what is looked up
   module _ (P : ℕ → A → Bool) where
     unfoldable pub rows : List (ℕ × A) → Bool

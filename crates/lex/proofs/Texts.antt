@@ -1,4 +1,5 @@
 -- Joined Text: what the Text token at the front adds to it.
+use Rattle.std.specs.Prelude.{None, Option, Some}
 use Prim.Native.Nat.{ℕ, suc, ◌+◌, ◌≤◌}
 use mathlib.Core.Path.{◌≡◌, refl, sym, ap, ◌∙◌}
 use mathlib.Core.List.{List, [], ◌∷◌}
@@ -17,8 +18,6 @@ use Rattle.classes.proofs.Runs.{run-stop, run_more}
 use Rattle.lex.specs.declared.lex.Token.{Token}
 use Rattle.lex.specs.declared.lex.Kind.TheVariants.{Open}
 use Rattle.lex.specs.declared.lex.Delimiter.TheVariants.{Brace}
-use Rattle.lex.specs.declared.lex.Next.{Next}
-use Rattle.lex.specs.declared.lex.Next.TheVariants.{Some, None}
 use Rattle.lex.specs.declared.lex.Start.{Start}
 use Rattle.lex.specs.declared.lex.Start.TheVariants as start
 use Rattle.lex.specs.Lexer.{token, start_of, braces, hyphens_of, begun_by, begun_of, lexed, is_text, texts, joined_of}
@@ -135,7 +134,7 @@ module _ (src : List ℕ) (from : ℕ) where
   abbrev pub Joining : ℕ → Type 0
   Joining end = end + texts (drop end src) ≡ from + texts (drop from src)
 
-  module _ (end : ℕ) (inv : Joining end) (next : Next) (e : next ≡ lexed false (drop end src)) where
+  module _ (end : ℕ) (inv : Joining end) (next : Option Token) (e : next ≡ lexed false (drop end src)) where
     ended : texts (drop end src) ≡ 0 → record { end = end; next = next } ≡ joined_of src from
     unfolding joined_of
     ended z =

@@ -1,4 +1,5 @@
 -- The steps of a cursor: from what is lexed at its place to the next token and cursor.
+use Rattle.std.specs.Prelude.{None, Option, Some}
 use Prim.Native.Nat.{ℕ, ◌+◌, ◌-◌, ◌≤◌, ◌<◌}
 use mathlib.Core.Path.{◌≡◌, sym, ap, ◌∙◌}
 use mathlib.Core.List.{List}
@@ -9,8 +10,6 @@ use lib.ListN.{length, drop, length-drop}
 use lib.Seq.{drop-drop}
 use Rattle.lex.specs.declared.lex.Token.{Token}
 use Rattle.lex.specs.declared.lex.Kind.TheVariants.{Text}
-use Rattle.lex.specs.declared.lex.Next.{Next}
-use Rattle.lex.specs.declared.lex.Next.TheVariants.{Some, None}
 use Rattle.lex.specs.declared.lex.Cursor.{Cursor}
 use Rattle.lex.specs.declared.lex.Lexed.{Lexed}
 use Rattle.lex.specs.declared.lex.Joined.{Joined}
@@ -89,7 +88,7 @@ module _ (src : List ℕ) (c : Cursor) where
 
   pub peek-held : (t : Token) → c.next ≡ Some t → record { token = c.next; cursor = c } ≡ peek_of src c
   unfolding peek_by
-  peek-held t e = ap (λ (n : Next). record { token = n; cursor = c }) e ∙ sym (ap (peek_by src c) e)
+  peek-held t e = ap (λ (n : Option Token). record { token = n; cursor = c }) e ∙ sym (ap (peek_by src c) e)
 
   pub peek-free : c.next ≡ None → record { token = lexed c.escape here; cursor = holding_of c c.pos (lexed c.escape here) } ≡ peek_of src c
   unfolding peek_by

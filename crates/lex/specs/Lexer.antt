@@ -1,5 +1,5 @@
 -- The lexer (document 01, "Lexer"): the tokens of a line's bytes, which the rules on inlines of the Djot syntax reference speak of.
-use Rattle.std.specs.Prelude.{ℕ, suc, ◌+◌, ◌-◌, List, [], ◌∷◌, Bool, true, false, not, ◌&&◌, ◌||◌, leb, ltb, eqb, length, get_or, drop}
+use Rattle.std.specs.Prelude.{ℕ, suc, ◌+◌, ◌-◌, List, [], ◌∷◌, Bool, true, false, not, ◌&&◌, ◌||◌, leb, ltb, eqb, length, get_or, drop, Option, Some, None}
 use Prim.Native.Char.{code}
 use Rattle.classes.specs.Classes.{blank, punctuation}
 use Rattle.classes.specs.declared.Set.TheVariants.{Plain, SpaceTab}
@@ -12,8 +12,6 @@ use Rattle.lex.specs.declared.lex.Delimiter.TheVariants.{BraceTilde, BraceUnders
 use Rattle.lex.specs.declared.lex.Symbol.TheVariants.{Asterisk, Caret, ExclaimBracket, Lt, Pipe, Quote1, Quote2, Tilde, Underscore, Colon}
 use Rattle.lex.specs.declared.lex.Sequence.{Sequence}
 use Rattle.lex.specs.declared.lex.Sequence.TheVariants.{Backtick, Hyphen, Period}
-use Rattle.lex.specs.declared.lex.Next.{Next}
-use Rattle.lex.specs.declared.lex.Next.TheVariants.{Some, None}
 use Rattle.lex.specs.declared.lex.Cursor.{Cursor}
 use Rattle.lex.specs.declared.lex.Lexed.{Lexed}
 use Rattle.lex.specs.declared.lex.Joined.{Joined}
@@ -120,7 +118,7 @@ escaped_of s =
     ]
 
 -- the token at the front, if there is a byte left
-unfoldable pub lexed : Bool → List ℕ → Next
+unfoldable pub lexed : Bool → List ℕ → Option Token
 lexed escape [] = None
 lexed true (b ∷ bs) = Some (escaped_of (b ∷ bs))
 lexed false (b ∷ bs) = Some (begun_of (b ∷ bs))
@@ -148,7 +146,7 @@ is_escape (Sym y) = false
 is_escape (Seq q) = false
 
 -- the byte behind a token is escaped: behind a backslash, but not in verbatim
-abbrev pub pending_of : Next → Bool → Bool
+abbrev pub pending_of : Option Token → Bool → Bool
 pending_of None verbatim = false
 pending_of (Some t) verbatim = is_escape t.kind && not verbatim
 
@@ -162,7 +160,7 @@ unfoldable pub joined_of : List ℕ → ℕ → Joined
 joined_of src from = let end = from + texts (drop from src) in record { end = end; next = lexed false (drop end src) }
 
 -- a cursor with other values for its place, and the token held there
-abbrev pub holding_of : Cursor → ℕ → Next → Cursor
+abbrev pub holding_of : Cursor → ℕ → Option Token → Cursor
 holding_of c pos next = record { pos = pos; escape = pending_of next c.verbatim; next = next; verbatim = c.verbatim }
 
 -- a fresh cursor
@@ -171,7 +169,7 @@ fresh_of pos verbatim = record { pos = pos; escape = false; next = None; verbati
 
 -- the next token of a line, and the cursor after it, where no token is held: of the bytes s from the cursor's place on, a Text token is
 -- joined with those behind it, and the token behind them is then held
-unfoldable pub found_by : Cursor → List ℕ → Next → Lexed
+unfoldable pub found_by : Cursor → List ℕ → Option Token → Lexed
 found_by c s None = record { token = None; cursor = holding_of c c.pos None }
 found_by c s (Some t) =
     elim (is_text t.kind) [
@@ -194,7 +192,7 @@ taken_of src c t =
       | false ↦ record { token = None; cursor = c }
     ]
 
-unfoldable pub next_by : List ℕ → Cursor → Next → Lexed
+unfoldable pub next_by : List ℕ → Cursor → Option Token → Lexed
 next_by src c (Some t) = taken_of src c t
 next_by src c None = let s = drop c.pos src in found_by c s (lexed c.escape s)
 
@@ -202,7 +200,7 @@ next_by src c None = let s = drop c.pos src in found_by c s (lexed c.escape s)
 abbrev pub next_of : List ℕ → Cursor → Lexed
 next_of src c = next_by src c c.next
 
-unfoldable pub peek_by : List ℕ → Cursor → Next → Lexed
+unfoldable pub peek_by : List ℕ → Cursor → Option Token → Lexed
 peek_by src c (Some t) = record { token = Some t; cursor = c }
 peek_by src c None = let t = lexed c.escape (drop c.pos src) in record { token = t; cursor = holding_of c c.pos t }
 

@@ -1,7 +1,6 @@
 -- The cursors that a lexer of a line can have: what functions over tokens ask of a cursor.
-use Rattle.std.specs.Prelude.{ℕ, ◌≤◌, ◌≡◌, List, length, drop}
+use Rattle.std.specs.Prelude.{ℕ, ◌≤◌, ◌≡◌, List, length, drop, Some}
 use Rattle.lex.specs.declared.lex.Token.{Token}
-use Rattle.lex.specs.declared.lex.Next.TheVariants.{Some}
 use Rattle.lex.specs.declared.lex.Cursor.{Cursor}
 
 -- a length within some bytes

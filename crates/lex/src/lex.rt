@@ -1,7 +1,6 @@
 // The lexer of `lex.rs`, over a line's bytes and a cursor by value. The byte classes are read from the lent table.
 ghost use Rattle.std.specs.Prelude.{◌≡◌, ◌<◌, length, get_or, drop};
-ghost use Rattle.classes.specs.Classes.{Ruled};
-ghost use Rattle.lex.specs.Lexer.{token as lex_token, ch_of, start_of, begun_by, begun_of, escaped_of, lexed, is_text, pending_of, joined_of};
+ghost use Rattle.lex.specs.Lexer.{token as lex_token, ch_of, start_of, begun_by, begun_of, escaped_of, lexed, is_text, is_escape, pending_of, joined_of};
 ghost use Rattle.lex.specs.Lexer.{holding_of, fresh_of, found_by, taken_of, next_of, peek_of};
 
 use classes::Set;
@@ -12,7 +11,7 @@ pub struct Token {
     pub len: usize,
 }
 
-#[derive(Clone, Copy)]
+#[derive(Clone, Copy, Debug)]
 pub enum Kind {
     Text,
     Newline,
@@ -25,7 +24,7 @@ pub enum Kind {
     Seq(Sequence),
 }
 
-#[derive(Clone, Copy)]
+#[derive(Clone, Copy, Debug)]
 pub enum Delimiter {
     Brace,
     BraceAsterisk,
@@ -41,7 +40,7 @@ pub enum Delimiter {
     Paren,
 }
 
-#[derive(Clone, Copy)]
+#[derive(Clone, Copy, Debug)]
 pub enum Symbol {
     Asterisk,
     Caret,
@@ -55,7 +54,7 @@ pub enum Symbol {
     Colon,
 }
 
-#[derive(Clone, Copy)]
+#[derive(Clone, Copy, Debug)]
 pub enum Sequence {
     Backtick,
     Hyphen,
@@ -74,13 +73,6 @@ impl Sequence {
     }
 }
 
-// A token, or none: `Option<Token>`.
-#[derive(Clone, Copy)]
-pub enum Next {
-    Some(Token),
-    None,
-}
-
 // The state of a lexer, without its line.
 #[derive(Clone, Copy)]
 pub struct Cursor {
@@ -89,7 +81,7 @@ pub struct Cursor {
     // The byte behind the held token is escaped; with none held, the byte at `pos`.
     pub escape: bool,
     // A token that was peeked at, or that ended a Text: it begins at `pos`.
-    pub next: Next,
+    pub next: Option<Token>,
     // Escapes are ignored.
     pub verbatim: bool,
 }
@@ -97,7 +89,7 @@ pub struct Cursor {
 // A token, and the cursor after it.
 #[derive(Clone, Copy)]
 pub struct Lexed {
-    pub token: Next,
+    pub token: Option<Token>,
     pub cursor: Cursor,
 }
 
@@ -118,7 +110,7 @@ enum Start {
 #[derive(Clone, Copy)]
 struct Joined {
     end: usize,
-    next: Next,
+    next: Option<Token>,
 }
 
 impl Cursor {
@@ -127,26 +119,26 @@ impl Cursor {
         ensures { result ≡ fresh_of pos verbatim }
     {
         Cursor {
-            pos: pos,
+            pos,
             escape: false,
-            next: Next::None,
-            verbatim: verbatim,
+            next: None,
+            verbatim,
         }
     }
 
     // The next token, which is held.
-    pub fn peek(self, src: &[u8], flags: &[u8; 256]) -> Lexed
-        requires { Ruled flags.now }
+    #[tactic(auto, unfolding(crate::specs::Lexer::peek_by))]
+    pub fn peek(self, src: &[u8]) -> Lexed
         ensures { result ≡ peek_of src.now self }
     {
         let held = self.next;
         match held {
-            Next::Some(_) => Lexed {
+            Some(_) => Lexed {
                 token: held,
                 cursor: self,
             },
-            Next::None => {
-                let found = Cursor::token(src, self.pos, self.escape, flags);
+            None => {
+                let found = Cursor::token(src, self.pos, self.escape);
                 Lexed {
                     token: found,
                     cursor: self.holding(self.pos, found),
@@ -156,73 +148,67 @@ impl Cursor {
     }
 
     // The next token: the held one as it is, or a lexed one.
-    pub fn next(self, src: &[u8], flags: &[u8; 256]) -> Lexed
-        requires { Ruled flags.now }
+    #[tactic(auto, unfolding(crate::specs::Lexer::next_by))]
+    pub fn next(self, src: &[u8]) -> Lexed
         ensures { result ≡ next_of src.now self }
     {
         let held = self.next;
         match held {
-            Next::Some(t) => self.take(src, t),
-            Next::None => self.next_token(src, flags),
+            Some(t) => self.take(src, t),
+            None => self.next_token(src),
         }
     }
 
     // The cursor behind the next token, for who has peeked at it.
-    pub fn skip(self, src: &[u8], flags: &[u8; 256]) -> Cursor
-        requires { Ruled flags.now }
+    #[tactic(auto, unfolding(crate::specs::Lexer::next_by))]
+    pub fn skip(self, src: &[u8]) -> Cursor
         ensures { result ≡ (next_of src.now self).cursor }
     {
         let held = self.next;
         match held {
-            Next::Some(t) => {
+            Some(t) => {
                 let taken = self.take(src, t);
                 taken.cursor
             }
-            Next::None => {
-                let lexed = self.next_token(src, flags);
+            None => {
+                let lexed = self.next_token(src);
                 lexed.cursor
             }
         }
     }
 
     // The held token is used up. One that does not lie within the line is none.
+    #[tactic(auto, unfolding(crate::specs::Lexer::taken_of))]
     fn take(self, src: &[u8], t: Token) -> Lexed
         ensures { result ≡ taken_of src.now self t }
     {
         let pos = self.pos;
         let len = t.len;
-        if src.len() < pos {
+        if (src.len() < pos) || (src.len() - pos < len) {
             return Lexed {
-                token: Next::None,
-                cursor: self,
-            };
-        }
-        if src.len() - pos < len {
-            return Lexed {
-                token: Next::None,
+                token: None,
                 cursor: self,
             };
         }
         let cursor = Cursor {
             pos: pos + len,
             escape: self.escape,
-            next: Next::None,
+            next: None,
             verbatim: self.verbatim,
         };
         Lexed {
-            token: Next::Some(t),
-            cursor: cursor,
+            token: Some(t),
+            cursor,
         }
     }
 
     // A lexed token. Text is joined, and the token behind it is held.
-    fn next_token(self, src: &[u8], flags: &[u8; 256]) -> Lexed
-        requires { Ruled flags.now }
+    fn next_token(self, src: &[u8]) -> Lexed
         ensures { result ≡ found_by self (drop self.pos src.now) (lexed self.escape (drop self.pos src.now)) }
     {
         let pos = self.pos;
-        let current = Cursor::token(src, pos, self.escape, flags);
-        let Next::Some(t) = current else {
+        let current = Cursor::token(src, pos, self.escape);
+        let Some(t) = current else {
             return Lexed {
                 token: current,
                 cursor: self.holding(pos, current),
@@ -233,7 +219,7 @@ impl Cursor {
             let cursor = Cursor {
                 pos: end,
                 escape: pending(current, self.verbatim),
-                next: Next::None,
+                next: None,
                 verbatim: self.verbatim,
             };
             return Lexed {
@@ -241,7 +227,7 @@ impl Cursor {
                 cursor: cursor,
             };
         }
-        let j = join(src, end, flags);
+        let j = join(src, end);
         let stop = j.end;
         let next = j.next;
         let text = Token {
@@ -249,82 +235,73 @@ impl Cursor {
             len: stop - pos,
         };
         Lexed {
-            token: Next::Some(text),
+            token: Some(text),
             cursor: self.holding(stop, next),
         }
     }
 
     // The cursor at a place, with the token there held.
-    fn holding(self, pos: usize, next: Next) -> Cursor
+    fn holding(self, pos: usize, next: Option<Token>) -> Cursor
         ensures { result ≡ holding_of self pos next }
     {
         Cursor {
-            pos: pos,
+            pos,
             escape: pending(next, self.verbatim),
-            next: next,
+            next,
             verbatim: self.verbatim,
         }
     }
 
     // The token at a place.
-    fn token(src: &[u8], pos: usize, escape: bool, flags: &[u8; 256]) -> Next
-        requires { Ruled flags.now }
+    #[tactic(auto, unfolding(crate::specs::Lexer::lexed))]
+    fn token(src: &[u8], pos: usize, escape: bool) -> Option<Token>
         ensures { result ≡ lexed escape (drop pos src.now) }
     {
         if src.len() <= pos {
-            return Next::None;
+            return None;
         }
         let s = &src[pos..];
         if escape {
-            return Next::Some(escaped(s, flags));
+            return Some(escaped(s));
         }
-        Next::Some(begun(s, flags))
+        Some(begun(s))
     }
 }
 
 fn is_text(t: Token) -> bool
     ensures { result ≡ is_text t.kind }
 {
-    let kind = t.kind;
-    match kind {
-        Kind::Text => true,
-        _ => false,
-    }
+    matches!(t.kind, Kind::Text)
 }
 
 // A backslash escapes the byte behind it, but not in verbatim.
-fn pending(next: Next, verbatim: bool) -> bool
+fn pending(next: Option<Token>, verbatim: bool) -> bool
     ensures { result ≡ pending_of next verbatim }
 {
-    let Next::Some(t) = next else {
-        return false;
-    };
-    let kind = t.kind;
-    match kind {
-        Kind::Escape => !verbatim,
-        _ => false,
+    match next {
+        Some(t) => is_escape(t) & !verbatim,
+        None => false,
     }
 }
 
+fn is_escape(t: Token) -> bool
+    ensures { result ≡ is_escape t.kind }
+{
+    matches!(t.kind, Kind::Escape)
+}
+
 // The Text tokens from a place on.
-fn join(src: &[u8], from: usize, flags: &[u8; 256]) -> Joined
-    requires { Ruled flags.now }
+fn join(src: &[u8], from: usize) -> Joined
     ensures { result ≡ joined_of src.now from }
 {
     let mut end = from;
     loop {
-        let next = Cursor::token(src, end, false, flags);
-        let Next::Some(t) = next else {
-            return Joined {
-                end: end,
-                next: next,
-            };
+        let next = Cursor::token(src, end, false);
+        let Some(t) = next else {
+            return Joined { end, next };
         };
         if !is_text(t) {
-            return Joined {
-                end: end,
-                next: next,
-            };
+            return Joined { end, next };
         }
         end += t.len;
     }
@@ -338,9 +315,9 @@ fn peek_byte_n(s: &[u8], n: usize) -> u8
 }
 
 // The token at a byte that a backslash escapes.
-fn escaped(s: &[u8], flags: &[u8; 256]) -> Token
-    requires s_nonzero { 0 < length s.now }
-    requires ruled { Ruled flags.now }
+#[tactic(auto, unfolding(crate::specs::Lexer::escaped_of))]
+fn escaped(s: &[u8]) -> Token
+    requires { 0 < length s.now }
     ensures { result ≡ escaped_of s.now }
 {
     let b = s[0];
@@ -350,7 +327,7 @@ fn escaped(s: &[u8], flags: &[u8; 256]) -> Token
             len: 1,
         };
     }
-    let n = classes::eat_while(s, Set::SpaceTab, flags);
+    let n = classes::eat_while(s, Set::SpaceTab);
     if (0 < n) & (peek_byte_n(s, n) == b'\n') {
         return Token {
             kind: Kind::Hardbreak,
@@ -370,6 +347,7 @@ fn escaped(s: &[u8], flags: &[u8; 256]) -> Token
 }
 
 // What a byte begins.
+#[tactic(auto, unfolding(crate::specs::Lexer::start_of, crate::specs::Lexer::starts, crate::specs::Lexer::lookup))]
 fn start_of(b: u8) -> Start
     ensures { result ≡ start_of b }
 {
@@ -402,20 +380,20 @@ fn start_of(b: u8) -> Start
 }
 
 // The token at a byte that is not escaped.
-fn begun(s: &[u8], flags: &[u8; 256]) -> Token
-    requires s_nonzero { 0 < length s.now }
-    requires ruled { Ruled flags.now }
+#[tactic(auto, unfolding(crate::specs::Lexer::begun_by))]
+fn begun(s: &[u8]) -> Token
+    requires { 0 < length s.now }
     ensures { result ≡ begun_of s.now }
 {
     match start_of(s[0]) {
         Start::Text => Token {
             kind: Kind::Text,
-            len: classes::eat_plain(s, flags),
+            len: classes::eat_plain(s),
         },
-        Start::Sole(kind) => Token { kind: kind, len: 1 },
+        Start::Sole(kind) => Token { kind, len: 1 },
         Start::Closing(kind, d) => maybe_eat_close_brace(s, kind, d),
         Start::Brace => brace(s),
-        Start::Backslash => backslash(s, flags),
+        Start::Backslash => backslash(s),
         Start::Hyphen => hyphens(s),
         Start::Exclaim => exclaim(s),
         Start::Run(q) => Token {
@@ -426,6 +404,7 @@ fn begun(s: &[u8], flags: &[u8; 256]) -> Token
 }
 
 // A kind of one byte, or with `}` behind it a closing delimiter.
+#[tactic(auto, unfolding(crate::specs::Lexer::begun_by))]
 fn maybe_eat_close_brace(s: &[u8], kind: Kind, d: Delimiter) -> Token
     ensures { result ≡ begun_by (Start.Closing kind d) s.now }
 {
@@ -435,17 +414,17 @@ fn maybe_eat_close_brace(s: &[u8], kind: Kind, d: Delimiter) -> Token
             len: 2,
         }
     } else {
-        Token { kind: kind, len: 1 }
+        Token { kind, len: 1 }
     }
 }
 
 // A backslash escapes a blank or punctuation, and is text before anything else.
-fn backslash(s: &[u8], flags: &[u8; 256]) -> Token
-    requires { Ruled flags.now }
+#[tactic(auto, unfolding(crate::specs::Lexer::begun_by))]
+fn backslash(s: &[u8]) -> Token
     ensures { result ≡ begun_by Start.Backslash s.now }
 {
     let b = peek_byte_n(s, 1);
-    if classes::is_blank(b, flags) | classes::is_punctuation(b, flags) {
+    if classes::is_blank(b) | classes::is_punctuation(b) {
         Token {
             kind: Kind::Escape,
             len: 1,
@@ -459,6 +438,7 @@ fn backslash(s: &[u8], flags: &[u8; 256]) -> Token
 }
 
 // `![` opens an image; `!` alone is text.
+#[tactic(auto, unfolding(crate::specs::Lexer::begun_by))]
 fn exclaim(s: &[u8]) -> Token
     ensures { result ≡ begun_by Start.Exclaim s.now }
 {
@@ -476,6 +456,7 @@ fn exclaim(s: &[u8]) -> Token
 }
 
 // `{` with a mark behind it is an explicit opening delimiter.
+#[tactic(auto, unfolding(crate::specs::Lexer::begun_by, crate::specs::Lexer::braces, crate::specs::Lexer::lookup))]
 fn brace(s: &[u8]) -> Token
     ensures { result ≡ begun_by Start.Brace s.now }
 {
@@ -506,6 +487,7 @@ fn explicit(d: Delimiter) -> Token
 }
 
 // A run of hyphens stops before a hyphen with `}` behind it; `-}` closes.
+#[tactic(auto, unfolding(crate::specs::Lexer::begun_by, crate::specs::Lexer::hyphens_of))]
 fn hyphens(s: &[u8]) -> Token
     ensures { result ≡ begun_by Start.Hyphen s.now }
 {

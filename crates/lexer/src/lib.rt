@@ -1,7 +1,6 @@
 #![tactic(auto)]
 // The lexer of `lex.rs` as a struct: the line's bytes and the place in them. The byte classes are read from the lent table.
 ghost use Rattle.std.specs.Prelude.{◌≡◌, false};
-ghost use Rattle.classes.specs.Classes.{Ruled};
 ghost use Rattle.lex.specs.Lexer.{fresh_of, next_of, peek_of};
 
 use lex::{Cursor, Lexed};
@@ -34,33 +33,29 @@ impl<'s> Lexer<'s> {
     }
 
     // The next token, and the cursor, which stays before it and holds it.
-    pub fn peek(self, flags: &[u8; 256]) -> Lexed
-        requires { Ruled flags.now }
+    pub fn peek(self) -> Lexed
         ensures { result ≡ peek_of self.entry.src.now self.entry.cursor }
     {
-        self.cursor.peek(self.src, flags)
+        self.cursor.peek(self.src)
     }
 
     // The next token and the cursor after it.
-    pub fn next(self, flags: &[u8; 256]) -> Lexed
-        requires { Ruled flags.now }
+    pub fn next(self) -> Lexed
         ensures { result ≡ next_of self.entry.src.now self.entry.cursor }
     {
-        self.cursor.next(self.src, flags)
+        self.cursor.next(self.src)
     }
 }
 
 // The token at a cursor of a line: whoever reads or shows tokens calls these.
-pub fn next_token(src: &[u8], c: Cursor, flags: &[u8; 256]) -> Lexed
-    requires { Ruled flags.now }
+pub fn next_token(src: &[u8], c: Cursor) -> Lexed
     ensures { result ≡ next_of src.now c }
 {
-    Lexer::new(src).at(c).next(flags)
+    Lexer::new(src).at(c).next()
 }
 
-pub fn peek_token(src: &[u8], c: Cursor, flags: &[u8; 256]) -> Lexed
-    requires { Ruled flags.now }
+pub fn peek_token(src: &[u8], c: Cursor) -> Lexed
     ensures { result ≡ peek_of src.now c }
 {
-    Lexer::new(src).at(c).peek(flags)
+    Lexer::new(src).at(c).peek()
 }

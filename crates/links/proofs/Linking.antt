@@ -4,63 +4,65 @@ use mathlib.Core.Path.{◌≡◌, sym, ap, ◌∙◌}
 use mathlib.Core.List.{List}
 use mathlib.Core.Bool.{Bool}
 use native.Mathlib.Numerals.{add-one}
-use native.Mathlib.Omega.{arith}
-use lib.ListN.{length, get_or, take, drop}
+use Rattle.std.specs.Borrow.{MutBor}
+use lib.ListN.{get_or, length, take, drop}
 use Rattle.reading.specs.declared.Event.{Event}
-use Rattle.reading.specs.declared.Last.{Last}
+use Rattle.reading.specs.declared.Home.{Home}
 use Rattle.reading.specs.declared.Place.{Place}
 use Rattle.reading.specs.declared.Target.{Target}
 use Rattle.reading.specs.declared.Opener.{Opener}
 use Rattle.reading.specs.Events.{place, becomes, becomes_to, enter, exit}
-use Rattle.reading.specs.Machine.{Rules, amend, no_str}
+use Rattle.reading.specs.Machine.{Rules, View, State, Turn, noting, with_link, no_str}
 use Rattle.reading.specs.Labels.{Labelled, label_of, label_home}
 use Rattle.reading.specs.Verbatim.{nothing}
 use Rattle.reading.specs.Containers.{closes_link}
 use Rattle.rooms.specs.declared.Parser.{Parser}
-use Rattle.rooms.specs.declared.Margin.{Margin}
 use Rattle.rooms.specs.declared.Span.{Span}
-use Rattle.reading.specs.declared.Home.{Home}
 use Rattle.rooms.specs.Records.{event_at, events}
-use Rattle.rooms.specs.Standing.{with_events, with_link, stands, turn, viewed, here, staying, Stepped}
-use Rattle.rooms.proofs.Rows.{rows_at, rows_cut}
+use Rattle.rooms.specs.Standing.{here}
+use Rattle.rooms.specs.Steps.{state, staying, amending, cutting, Queued}
+use Rattle.rooms.proofs.Rows.{rows_at}
 use Rattle.links.specs.Linked.{linked}
 
-module _ (rules : Rules) (text : List ℕ) (m : Margin) (line : List ℕ) (h : Span) (t : Target) (x : Opener) (p : Parser) (q o l : List ℕ)
-    (in-queue : x.event < p.events) where
+module _ (rules : Rules) (text : List ℕ) (v : View) (h : Span) (t : Target) (x : Opener) (p : Parser) (in-queue : x.event < p.at.events) where
   -- the label, with the destination's event read from the room
   abbrev label : Place → Event → Labelled
   label at d =
-      label_home (length l) p.links (take p.labels l) p.fits
-      (label_of text t.inline m.base at.0 d (drop (suc x.span) (take (x.event - 1) (events p.events q)))
-      (drop (suc x.event) (events p.events q)))
+      label_home (length p.labels.now) p.at.links (take p.at.labels p.labels.now) p.at.fits
+      (label_of text t.inline v.base at.0 d (drop (suc x.span) (take (x.event - 1) (events p.at.events p.queue.now)))
+      (drop (suc x.event) (events p.at.events p.queue.now)))
 
-  -- what the code makes of the parser
-  abbrev pub unlinked : ℕ → Bool → Last → Parser
-  unlinked used fits last = with_link (with_events p x.event last) used fits
+  -- what becomes of the queue
+  abbrev linking : Home → ℕ → State → State
+  linking home end s =
+      cutting x.event (amending (becomes_to (exit t.container) home end) (x.event - 1) (amending (becomes (enter t.container) home) x.span s))
 
-  pub link-step : (at : Place) → at ≡ place (m.base + h.from) → (home : Home) (used : ℕ) (fits : Bool) (l' : List ℕ)
-      → record { home = home; labels = take used l'; fits = fits } ≡ label at (event_at q x.event)
-      → used ≤ length l' → (q₁ q₂ : List ℕ) (end : Place) → end ≡ place (m.base + h.to)
-      → ((n : ℕ) → events n q₁ ≡ amend (becomes (enter t.container) home) x.span (events n q))
-      → ((n : ℕ) → events n q₂ ≡ amend (becomes_to (exit t.container) home end.0) (x.event - 1) (events n q₁))
-      → (last : Last) → last ≡ no_str
-      → Stepped p q o l (unlinked used fits last) q₂ o l' (staying p (linked rules text l (viewed m line) (here h p) t x))
-  link-step at isat home used fits l' sh room q₁ q₂ end ise h₁ h₂ last isl =
+  -- what the code makes of the state behind it
+  abbrev ended : List ℕ → Bool → State → State
+  ended bs fits s =
       record {
-        same = first ∙ ap (λ (z : Labelled). record { cursor = p.cursor; state = closes_link t.container z (viewed m line) (here h p) x (stands p q o l) }) (sh ∙ ap (λ (z : Place). label z (event_at q x.event)) isat ∙ ap (label (place (m.base + h.from))) (sym known));
-        labels = room;
+        queue = s.queue;
+        openers = s.openers;
+        inside = s.inside;
+        last = no_str;
+        labels = bs;
+        fits = fits;
+        links = record { 0 = p.at.links.0 + 1 };
+        refused = s.refused;
       }
+
+  -- p₁ is the parser with the label built, p₄ the one with the queue changed
+  pub linked-turn : (p₁ p₄ : Parser) → p₁.at ≡ p.at → p₁.queue ≡ p.queue → p₁.openers ≡ p.openers
+      → (at : Place) → at ≡ place (v.base + h.from) → (home : Home) (used : ℕ) (fits : Bool) (l' : List ℕ)
+      → record { home = home; labels = take used l'; fits = fits } ≡ label at (event_at p.queue.now x.event)
+      → (end : Place) → end ≡ place (v.base + h.to) → Queued p₁ p₄ (staying p₁ (linking home end.0))
+      → record { cursor = p₄.at.cursor; state = ended (take used l') fits (state p₄) }
+      ≡ staying p (linked rules text p.labels.now v (here h p.at) t x) (state p)
+  linked-turn p₁ p₄ a q o at isat home used fits l' sh end ise c =
+      ap (λ (k : Turn). record { cursor = k.cursor; state = ended (take used l') fits k.state }) c.changed.same
+      ∙ rw (a, q, o, ise, add-one)
+      (ap (λ (z : Labelled). record { cursor = p.at.cursor; state = closes_link t.container z v (here h p.at) x (state p) })
+      (sh ∙ ap (λ (z : Place). label z (event_at p.queue.now x.event)) isat ∙ ap (label (place (v.base + h.from))) (sym known)))
     where
-      known : get_or (events p.events q) x.event nothing ≡ event_at q x.event
-      known = rows_at event_at p.events q x.event nothing in-queue
-
-      cut : events x.event q₂
-          ≡ take x.event (amend (becomes_to (exit t.container) home (m.base + h.to)) (x.event - 1)
-          (amend (becomes (enter t.container) home) x.span (events p.events q)))
-      cut =
-          rows_cut event_at x.event p.events q₂ (omega arith)
-          ∙ rw (h₂ p.events, h₁ p.events, ise)
-
-      first : turn (unlinked used fits last) q₂ o l'
-          ≡ record { cursor = p.cursor; state = closes_link t.container (record { home = home; labels = take used l'; fits = fits }) (viewed m line) (here h p) x (stands p q o l) }
-      first = rw (cut, isl, add-one)
+      known : get_or (events p.at.events p.queue.now) x.event nothing ≡ event_at p.queue.now x.event
+      known = rows_at event_at p.at.events p.queue.now x.event nothing in-queue

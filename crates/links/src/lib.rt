@@ -1,65 +1,49 @@
 #![tactic(auto)]
 // The end of a link: its label, and the events that become its enter and exit.
-ghost use Rattle.std.specs.Prelude.{◌≡◌, List, ℕ, ◌+◌, ◌*◌, ◌^◌, ◌≤◌, ◌<◌, length};
-ghost use Rattle.reading.specs.Events.{enter_from, queue_numbers, largest};
+ghost use Rattle.std.specs.Prelude.{◌≡◌, ◌+◌, ◌^◌, ◌≤◌, ◌<◌, length};
+ghost use Rattle.reading.specs.Events.{enter_from, largest};
 ghost use Rattle.reading.specs.Machine.{Rules};
-ghost use Rattle.rooms.specs.Standing.{viewed, here, Stepped, staying};
+ghost use Rattle.rooms.specs.Standing.{viewed, here};
+ghost use Rattle.rooms.specs.Steps.{Stepped, staying};
 ghost use Rattle.links.specs.Linked.{linked};
 
 use labels::Destination;
 use reading::{Link, Opener, Target, kind};
-use rooms::{Margin, Parser, Span};
+use rooms::{Parser, Span, View};
 
 // A link: its `[` becomes the enter; its `]` the exit, whose span goes to behind the destination; the destination's events go.
-pub fn closes_link(
-    text: &[u8],
-    m: Margin,
-    h: Span,
-    t: Target,
-    o: Opener,
-    p: Parser,
-    queue: &mut [u32],
-    labels: &mut [u8],
-) -> Parser
+pub fn closes_link(p: &mut Parser, text: &[u8], v: &View, h: Span, t: Target, o: Opener)
     requires from_le_to { h.from ≤ h.to }
-    requires to_bound { m.base + h.to ≤ largest }
+    requires to_bound { v.now.base + h.to ≤ largest }
     requires container_lt_enter_from { t.container < enter_from }
     requires span_bound { o.span + 2 ≤ o.event }
-    requires event_lt_events { o.event < p.events }
-    requires queue_numbers_in_bounds { p.events * queue_numbers ≤ length queue.old }
-    requires labels_in_bounds { p.labels ≤ length labels.old }
-    requires labels_len_bound { length labels.old < 2 ^ 32 }
-    requires links_bound { p.links.0 + 1 < 2 ^ 32 }
-    ensures { (rules : Rules) (os line : List ℕ) → Stepped p queue.old os labels.old result queue.new os
-        labels.new (staying p (linked rules text.now labels.old (viewed m line) (here h p) t o)) }
+    requires event_lt_events { o.event < p.old.at.events }
+    requires labels_len_bound { length p.old.labels.now < 2 ^ 32 }
+    requires links_bound { p.old.at.links.0 + 1 < 2 ^ 32 }
+    ensures { (rules : Rules) → Stepped p.old p.new (staying p.old (linked rules text.now p.old.labels.now (viewed v.now) (here h p.old.at) t o)) }
 {
-    let links = p.links;
-    let event = o.event;
+    let at = p.at;
     let d = Destination {
-        event: event,
+        event: o.event,
         span: o.span,
         inline: t.inline,
-        base: m.base,
-        at: atoms::place_at(m, h.from),
-        link: links,
+        base: v.base,
+        at: v.place(h.from),
+        link: at.links,
     };
-    let label = labels::label_of(text, queue, p.events, d, labels, p.labels, p.fits);
-    let home = label.home;
-    rooms::set_kind(queue, o.span, kind::ENTER + t.container, home);
-    rooms::set_kind_to(
-        queue,
-        event - 1,
+    let queue = &mut *p.queue;
+    let labels = &mut *p.labels;
+    let label = labels::label_of(text, queue, at.events, d, labels, at.labels, at.fits);
+    p.set_kind(o.span, kind::ENTER + t.container, label.home);
+    p.set_kind_to(
+        o.event - 1,
         kind::EXIT + t.container,
-        home,
-        atoms::place_at(m, h.to),
+        label.home,
+        v.place(h.to),
     );
-    let none = atoms::no_str();
-    let mut out = p;
-    out.events = event;
-    out.last = none;
-    out.labels = label.labels;
-    out.fits = label.fits;
-    let next = Link(links.0 + 1);
-    out.links = next;
-    out
+    p.cut(o.event);
+    p.at.last = atoms::no_str();
+    p.at.labels = label.labels;
+    p.at.fits = label.fits;
+    p.at.links = Link(at.links.0 + 1);
 }

@@ -3,10 +3,11 @@ use Prim.Native.Nat.{ℕ, zero, suc, ◌+◌, ◌-◌, ◌≤◌}
 use Prim.Native.Char.{code}
 use mathlib.Core.Path.{◌≡◌, refl, sym, ap, ◌∙◌, subst}
 use mathlib.Core.List.{List, [], ◌∷◌, ◌++◌, map, append_assoc, append-nil}
-use mathlib.Core.Bool.{Bool, true, false, ◌&&◌}
+use mathlib.Core.Bool.{Bool, true, false}
 use native.Mathlib.Omega.{arith}
-use borrow.Author.Tests.{ltb-false, ne_eqb}
-use lib.Dec.{ltb, eqb}
+use Rattle.std.proofs.Common.{rules}
+use borrow.Author.Tests.{ltb-false}
+use lib.Dec.{ltb}
 use Rattle.classes.specs.Classes.{bytes}
 use Rattle.reading.specs.declared.Event.{Event}
 use Rattle.reading.specs.Events.{enter_from, exit_from}
@@ -43,75 +44,15 @@ Tag from r = Reads r.bytes (tagged (from + r.number) r.bytes)
 
 opening-tags : All (Tag enter_from) opening
 unfolding All bytes opening closing breaking entities begins first_of parts_behind tagged
-opening-tags = (
-  record { same = λ rest a. refl; apart = λ rest a. record { span = refl; inline = refl; display = refl } },
-  (
-    record { same = λ rest a. refl; apart = λ rest a. record { span = refl; inline = refl; display = refl } },
-    (
-      record { same = λ rest a. refl; apart = λ rest a. record { span = refl; inline = refl; display = refl } },
-      (
-        record { same = λ rest a. refl; apart = λ rest a. record { span = refl; inline = refl; display = refl } },
-        (
-          record { same = λ rest a. refl; apart = λ rest a. record { span = refl; inline = refl; display = refl } },
-          (
-            record { same = λ rest a. refl; apart = λ rest a. record { span = refl; inline = refl; display = refl } },
-            (
-              record { same = λ rest a. refl; apart = λ rest a. record { span = refl; inline = refl; display = refl } },
-              (
-                record { same = λ rest a. refl; apart = λ rest a. record { span = refl; inline = refl; display = refl } },
-                (
-                  record { same = λ rest a. refl; apart = λ rest a. record { span = refl; inline = refl; display = refl } },
-                  (
-                    record { same = λ rest a. refl; apart = λ rest a. record { span = refl; inline = refl; display = refl } },
-                    tt,
-                  ),
-                ),
-              ),
-            ),
-          ),
-        ),
-      ),
-    ),
-  ),
-)
+opening-tags = search rules
 
 closing-tags : All (Tag exit_from) closing
 unfolding All bytes opening closing breaking entities begins first_of parts_behind tagged
-closing-tags = (
-  record { same = λ rest a. refl; apart = λ rest a. record { span = refl; inline = refl; display = refl } },
-  (
-    record { same = λ rest a. refl; apart = λ rest a. record { span = refl; inline = refl; display = refl } },
-    (
-      record { same = λ rest a. refl; apart = λ rest a. record { span = refl; inline = refl; display = refl } },
-      (
-        record { same = λ rest a. refl; apart = λ rest a. record { span = refl; inline = refl; display = refl } },
-        (
-          record { same = λ rest a. refl; apart = λ rest a. record { span = refl; inline = refl; display = refl } },
-          (
-            record { same = λ rest a. refl; apart = λ rest a. record { span = refl; inline = refl; display = refl } },
-            (
-              record { same = λ rest a. refl; apart = λ rest a. record { span = refl; inline = refl; display = refl } },
-              (
-                record { same = λ rest a. refl; apart = λ rest a. record { span = refl; inline = refl; display = refl } },
-                (
-                  record { same = λ rest a. refl; apart = λ rest a. record { span = refl; inline = refl; display = refl } },
-                  (
-                    record { same = λ rest a. refl; apart = λ rest a. record { span = refl; inline = refl; display = refl } },
-                    tt,
-                  ),
-                ),
-              ),
-            ),
-          ),
-        ),
-      ),
-    ),
-  ),
-)
+closing-tags = search rules
 
 breaking-tags : All (Tag 0) breaking
 unfolding All bytes opening closing breaking entities begins first_of parts_behind tagged
-breaking-tags = (record { same = λ rest a. refl; apart = λ rest a. record { span = refl; inline = refl; display = refl } }, tt)
+breaking-tags = search rules
 
 find-reads : (from n : ℕ) (rs : List Row) → All (Tag from) rs → Reads (find n rs) (tagged (from + n) (find n rs))
 unfolding tagged
@@ -147,10 +88,6 @@ tag-reads kind = go (ltb kind enter_from) refl
     go true e = let z : 0 + kind ≡ kind = omega arith in subst (λ (k : ℕ). Reads (find kind breaking) (tagged k (find kind breaking))) z (find-reads 0 kind breaking breaking-tags)
     go false e = late (ltb kind exit_from) refl (ltb-false kind enter_from e)
 
-and-false : (a : Bool) → (a && false) ≡ false
-and-false true = refl
-and-false false = refl
-
 -- nothing is known that some bytes begin with
 unfoldable Misses : List Known → ℕ → List ℕ → Type 0
 Misses [] b bs = Unit {0}
@@ -163,30 +100,24 @@ first-none (k ∷ ks) b bs m = rw (m.0, first_of) (first-none ks b bs m.1)
 
 -- a byte that has no entity: none of the tags begins with it, but those that end a math, if it is a backslash
 module _ (b : ℕ) (amp : b ≡ code "&" → ⊥) (less : b ≡ code "<" → ⊥) where
-  no-amp : eqb (code "&") b ≡ false
-  no-amp = ne_eqb (code "&") b (λ e. amp (sym e))
-
-  no_less : eqb (code "<") b ≡ false
-  no_less = ne_eqb (code "<") b (λ e. less (sym e))
-
   less-not : (cs rest : List ℕ) → begins (code "<" ∷ cs) (b ∷ rest) ≡ false
   unfolding begins
-  less-not cs rest = rw no_less
+  less-not cs rest = grind arith
 
   amp-not : (cs rest : List ℕ) → begins (code "&" ∷ cs) (b ∷ rest) ≡ false
   unfolding begins
-  amp-not cs rest = rw no-amp
+  amp-not cs rest = grind arith
 
   -- nor do those that end a math, by what follows
   slash-not : (cs rest : List ℕ) → begins cs rest ≡ false → begins (code "\\" ∷ cs) (b ∷ rest) ≡ false
   unfolding begins
-  slash-not cs rest h = ap (λ (t : Bool). eqb (code "\\") b && t) h ∙ and-false (eqb (code "\\") b)
+  slash-not cs rest h = grind arith
 
   plain-first : (rest : List ℕ) → Apart rest → first_of known b rest ≡ record { part = shows b; more = 0 }
   unfolding bytes opening closing breaking entities Misses
   plain-first rest a =
       first-none known b rest
-      (less-not _ rest, (less-not _ rest, (less-not _ rest, (less-not _ rest, (less-not _ rest, (less-not _ rest, (less-not _ rest, (less-not _ rest, (less-not _ rest, (less-not _ rest, (less-not _ rest, (less-not _ rest, (less-not _ rest, (less-not _ rest, (less-not _ rest, (less-not _ rest, (less-not _ rest, (less-not _ rest, (slash-not _ rest a.inline, (slash-not _ rest a.display, (less-not _ rest, (amp-not _ rest, (amp-not _ rest, (amp-not _ rest, tt))))))))))))))))))))))))
+      (search (less-not, amp-not, slash-not, a.inline, a.display))
 
   plain-same : (rest : List ℕ) → Apart rest → parts (b ∷ rest) ≡ shows b ∷ parts rest
   unfolding parts_behind
@@ -194,12 +125,7 @@ module _ (b : ℕ) (amp : b ≡ code "&" → ⊥) (less : b ≡ code "<" → ⊥
 
   plain-apart : (rest : List ℕ) → Apart rest → Apart (b ∷ rest)
   unfolding bytes begins
-  plain-apart rest a =
-      record {
-        span = rw (no_less, begins);
-        inline = ap (λ (t : Bool). eqb (code ")") b && t) a.span ∙ and-false (eqb (code ")") b);
-        display = ap (λ (t : Bool). eqb (code "]") b && t) a.span ∙ and-false (eqb (code "]") b);
-      }
+  plain-apart rest a = record { span = grind arith; inline = grind (arith, a.span); display = grind (arith, a.span) }
 
 byte_reads : (b : ℕ) → Reads (escape_by entities b) (shows b ∷ [])
 unfolding bytes opening closing breaking entities begins first_of parts_behind escape_by
@@ -209,11 +135,11 @@ byte_reads b = go (equal b (code "&")) (equal b (code "<")) (equal b (code ">"))
     at c e r = subst (λ (d : ℕ). Reads (escape_by entities d) (shows d ∷ [])) (sym e) r
 
     go : Dec (b ≡ code "&") → Dec (b ≡ code "<") → Dec (b ≡ code ">") → Reads (escape_by entities b) (shows b ∷ [])
-    go (yes e) y z = at (code "&") e (record { same = λ rest a. refl; apart = λ rest a. record { span = refl; inline = refl; display = refl } })
-    go (no x) (yes e) z = at (code "<") e (record { same = λ rest a. refl; apart = λ rest a. record { span = refl; inline = refl; display = refl } })
-    go (no x) (no y) (yes e) = at (code ">") e (record { same = λ rest a. refl; apart = λ rest a. record { span = refl; inline = refl; display = refl } })
+    go (yes e) y z = at (code "&") e (search rules)
+    go (no x) (yes e) z = at (code "<") e (search rules)
+    go (no x) (no y) (yes e) = at (code ">") e (search rules)
     go (no x) (no y) (no z) =
-        let own : escape_by entities b ≡ b ∷ [] = rw (ne_eqb b (code "&") x, ne_eqb b (code "<") y, ne_eqb b (code ">") z, escape_by) in
+        let own : escape_by entities b ≡ b ∷ [] = grind arith in
         subst (λ (bs : List ℕ). Reads bs (shows b ∷ [])) (sym own) (record { same = plain-same b x y; apart = plain-apart b x y })
 
 -- characters

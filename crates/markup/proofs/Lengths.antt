@@ -1,14 +1,12 @@
 -- How long a fragment can get: five bytes for each byte of the fed lines, and 29 for each event.
 use Prim.Native.Nat.{ℕ, zero, suc, ◌+◌, ◌-◌, ◌*◌, ◌≤◌, ◌<◌}
-use Prim.Native.Char.{code}
-use mathlib.Core.Path.{◌≡◌, refl, sym, ap, subst}
+use mathlib.Core.Path.{◌≡◌, refl, ap, subst}
 use mathlib.Core.List.{List, [], ◌∷◌}
 use mathlib.Core.Bool.{Bool, true, false, ◌||◌}
 use mathlib.Core.Logic.{inl, inr}
 use native.Mathlib.Nat.{add-zero}
 use native.Mathlib.Omega.{arith}
-use borrow.Author.Tests.{ne_eqb}
-use lib.Dec.{ltb, eqb}
+use lib.Dec.{eqb}
 use lib.ListN.{length, drop, length-append, length-take}
 use Rattle.classes.specs.Classes.{bytes}
 use Rattle.reading.specs.declared.Line.{Line}
@@ -19,7 +17,7 @@ use Rattle.reading.specs.Questions.{total}
 use Rattle.reading.specs.Walked.{Ordered, Of, Shown, link_exit}
 use Rattle.markup.specs.Markup.{Row, find, opening, closing, breaking, atoms, tag, characters, entities, escape_by, escaped, written}
 use Rattle.markup.specs.Markup.{raw_behind, unless_raw, outside_raw, fragment}
-use Rattle.markup.proofs.Tables.{equal, All, found, every}
+use Rattle.markup.proofs.Tables.{All, found, every}
 
 abbrev Short : ℕ → Row → Type 0
 Short n r = length r.bytes ≤ n
@@ -29,29 +27,23 @@ find-short m n rs all = found (λ (bs : List ℕ). length bs ≤ m) n rs (every 
 
 opening-short : All (Short 29) opening
 unfolding All opening bytes
-opening-short = (omega arith, (omega arith, (omega arith, (omega arith, (omega arith, (omega arith, (omega arith, (omega arith, (omega arith, (omega arith, tt))))))))))
+opening-short = search arith
 
 closing-short : All (Short 29) closing
 unfolding All closing bytes
-closing-short = (omega arith, (omega arith, (omega arith, (omega arith, (omega arith, (omega arith, (omega arith, (omega arith, (omega arith, (omega arith, tt))))))))))
+closing-short = search arith
 
 breaking-short : All (Short 4) breaking
 unfolding All breaking bytes
-breaking-short = (omega arith, tt)
+breaking-short = search arith
 
 atoms-short : All (Short 3) atoms
 unfolding All atoms
-atoms-short = (omega arith, (omega arith, (omega arith, (omega arith, (omega arith, (omega arith, (omega arith, (omega arith, (omega arith, (omega arith, (omega arith, tt)))))))))))
+atoms-short = search arith
 
 entity-short : (b : ℕ) → length (escape_by entities b) ≤ 5
 unfolding escape_by entities bytes
-entity-short b = go (eqb b (code "&")) (eqb b (code "<")) (eqb b (code ">"))
-  where
-    go : (s t u : Bool) → length {A = ℕ} (elim s [ true ↦ bytes "&amp;" | false ↦ elim t [ true ↦ bytes "&lt;" | false ↦ elim u [ true ↦ bytes "&gt;" | false ↦ b ∷ [] ] ] ]) ≤ 5
-    go true t u = omega arith
-    go false true u = omega arith
-    go false false true = omega arith
-    go false false false = omega arith
+entity-short b = grind arith
 
 escaped-short : (cs : List ℕ) → length (escaped cs) ≤ 5 * length cs
 unfolding escaped
@@ -104,31 +96,23 @@ width false e = 0
 module _ (text : List ℕ) (e : Event) where
   written-short : length (written text e) ≤ 5 * width (copies e) e + 29
   unfolding tag characters escaped width
-  written-short = omega (arith, length-append (tag e.kind) (escaped (characters text e)), go (ltb e.kind enter_from) (ltb e.kind exit_from) (copies e))
-    where
-      wide : length (part text e.start.0 e.end.0) ≤ e.end.0 - e.start.0
-      wide = omega (arith, length-take (e.end.0 - e.start.0) (drop e.start.0 text))
-
-      go : (s t u : Bool)
-          → length {A = ℕ} (elim s [ true ↦ find e.kind breaking | false ↦ elim t [ true ↦ find (e.kind - enter_from) opening | false ↦ find (e.kind - exit_from) closing ] ])
-          + length (escaped (elim s [ true ↦ elim u [ true ↦ part text e.start.0 e.end.0 | false ↦ find e.kind atoms ] | false ↦ [] ]))
-          ≤ 5 * width u e + 29
-      go true t true =
-          omega (arith, find-short 4 e.kind breaking breaking-short, escaped-short (part text e.start.0 e.end.0), wide)
-      go true t false =
-          omega (arith, find-short 4 e.kind breaking breaking-short, escaped-short (find e.kind atoms), find-short 3 e.kind atoms atoms-short)
-      go false true u = omega (arith, find-short 29 (e.kind - enter_from) opening opening-short)
-      go false false u = omega (arith, find-short 29 (e.kind - exit_from) closing closing-short)
+  written-short =
+      grind (
+        arith,
+        length-append (tag e.kind) (escaped (characters text e)),
+        length-take (e.end.0 - e.start.0) (drop e.start.0 text),
+        escaped-short (part text e.start.0 e.end.0),
+        escaped-short (find e.kind atoms),
+        find-short 4 e.kind breaking breaking-short,
+        find-short 3 e.kind atoms atoms-short,
+        find-short 29 (e.kind - enter_from) opening opening-short,
+        find-short 29 (e.kind - exit_from) closing closing-short,
+      )
 
 -- it is no exit of a link, so that what is under its span is shown
 no-link : (kind : ℕ) → (eqb kind str || eqb kind symbol) ≡ true → link_exit kind ≡ false
 unfolding link_exit
-no-link kind h = go (equal kind str) (equal kind symbol)
-  where
-    go : Dec (kind ≡ str) → Dec (kind ≡ symbol) → link_exit kind ≡ false
-    go (yes e) y = subst (λ (k : ℕ). link_exit k ≡ false) (sym e) refl
-    go (no x) (yes e) = subst (λ (k : ℕ). link_exit k ≡ false) (sym e) refl
-    go (no x) (no y) = let z : ◌≡◌ {A = Bool} false true = rw (ne_eqb kind str x, ne_eqb kind symbol y) at h in let u : ◌≡◌ {A = ℕ} 0 1 = cc in absurd (omega (arith, u))
+no-link kind h = grind arith
 
 -- the bytes that it writes are of the lines, if what is shown is
 span-within : (ls : List Line) (e : Event) (es : List Event) → e.start.0 ≤ e.end.0 → ((i : ℕ) → Shown i (e ∷ es) → Of ls i)

@@ -4,10 +4,9 @@ use mathlib.Core.Path.{◌≡◌, refl, sym, ap, ◌∙◌, subst}
 use mathlib.Core.List.{List, [], ◌∷◌, ◌++◌, map, append_assoc}
 use mathlib.Core.Bool.{Bool, true, false}
 use native.Mathlib.Omega.{arith}
-use borrow.Author.Tests.{ltb-true, ltb-false, eq-eqb, ne_eqb}
 use lib.Dec.{ltb, eqb}
 use Rattle.reading.specs.declared.Event.{Event}
-use Rattle.reading.specs.Events.{home_of, nowhere, enter_from, exit_from, enter, exit, raw_format}
+use Rattle.reading.specs.Events.{home_of, nowhere, enter_from, exit_from, raw_format}
 use Rattle.reading.specs.Walked.{Tag, Walk, opening, closing, neither, walk_by, walk_of, Matches}
 use Rattle.markup.specs.Markup.{find, tag, characters, raw_behind, unless_raw, outside_raw, opening as opens, closing as closes}
 use Rattle.markup.specs.Shown.{Part, shows, walk_at, tagged, parts_of}
@@ -31,42 +30,24 @@ open_in (t ∷ ts) = unless_raw (depth ts) (if_any (find t.k opens) (plain t.k))
 
 raw-is : (k : ℕ) → k ≡ raw_format → raw_bit k ≡ 1
 unfolding raw_bit
-raw-is k e = rw (eq-eqb k raw_format e, raw_bit)
+raw-is k e = grind arith
 
 raw-not : (k : ℕ) → (k ≡ raw_format → ⊥) → raw_bit k ≡ 0
 unfolding raw_bit
-raw-not k n = rw (ne_eqb k raw_format n, raw_bit)
+raw-not k n = grind arith
 
 module _ (n kind : ℕ) where
   raw-neither : ltb kind enter_from ≡ true → raw_behind n kind ≡ n
   unfolding raw_behind
-  raw-neither h =
-      let l = ltb-true kind enter_from h in
-      rw (ne_eqb kind (enter raw_format) (λ e. omega (arith, e, l)), ne_eqb kind (exit raw_format) (λ e. omega (arith, e, l)), raw_behind)
+  raw-neither h = grind arith
 
   raw-opening : ltb kind enter_from ≡ false → ltb kind exit_from ≡ true → raw_behind n kind ≡ raw_bit (kind - enter_from) + n
-  unfolding raw_behind
-  raw-opening h k = go (equal kind (enter raw_format))
-    where
-      go : Dec (kind ≡ enter raw_format) → raw_behind n kind ≡ raw_bit (kind - enter_from) + n
-      go (yes e) = rw (eq-eqb kind (enter raw_format) e, raw_behind) (omega (arith, raw-is (kind - enter_from) (omega (arith, e))))
-      go (no d) =
-          rw (ne_eqb kind (enter raw_format) d, ne_eqb kind (exit raw_format) (λ e. omega (arith, e, ltb-true kind exit_from k)), raw_behind)
-          (omega (arith, raw-not (kind - enter_from) (λ e. d (omega (arith, e, ltb-false kind enter_from h)))))
+  unfolding raw_behind raw_bit
+  raw-opening h k = grind arith
 
   raw-closing : ltb kind exit_from ≡ false → raw_behind n kind ≡ n - raw_bit (kind - exit_from)
-  unfolding raw_behind
-  raw-closing h = go (equal kind (exit raw_format))
-    where
-      late : kind ≡ enter raw_format → ⊥
-      late e = omega (arith, e, ltb-false kind exit_from h)
-
-      go : Dec (kind ≡ exit raw_format) → raw_behind n kind ≡ n - raw_bit (kind - exit_from)
-      go (yes e) =
-          rw (ne_eqb kind (enter raw_format) late, eq-eqb kind (exit raw_format) e, raw_behind) (omega (arith, raw-is (kind - exit_from) (omega (arith, e))))
-      go (no d) =
-          rw (ne_eqb kind (enter raw_format) late, ne_eqb kind (exit raw_format) d, raw_behind)
-          (omega (arith, raw-not (kind - exit_from) (λ e. d (omega (arith, e, ltb-false kind exit_from h)))))
+  unfolding raw_behind raw_bit
+  raw-closing h = grind arith
 
 -- characters neither open nor close
 matches-shown : (cs : List ℕ) (ps : List Part) (ts : List Tag) → Matches (map walk_at ps) ts → Matches (map walk_at (map shows cs ++ ps)) ts

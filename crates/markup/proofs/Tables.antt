@@ -3,6 +3,7 @@ use Prim.Native.Nat.{ℕ}
 use mathlib.Core.Path.{◌≡◌, refl, sym, ◌∙◌}
 use mathlib.Core.List.{List, [], ◌∷◌}
 use mathlib.Core.Bool.{Bool, true, false}
+use Rattle.std.proofs.Common.{arith, rules}
 use borrow.Author.Tests.{eqb-true, eqb-false}
 use lib.Dec.{eqb}
 use Rattle.classes.specs.Classes.{bytes}
@@ -55,17 +56,11 @@ chosen false a = []
 any_found : {A : Type 0} (a : A) (n : ℕ) (rs : List Row) → All (λ (r : Row). Some r.bytes) rs → if_any (find n rs) a ≡ chosen (among n rs) a
 unfolding All find among if_any Some chosen
 any_found a n [] all = refl
-any_found a n (r ∷ rs) all = go (eqb n r.number) r.bytes all.0 (any_found a n rs all.1)
-  where
-    go : (t : Bool) (bs : List ℕ) → Some bs → if_any (find n rs) a ≡ chosen (among n rs) a
-        → if_any (elim t [ true ↦ bs | false ↦ find n rs ]) a ≡ chosen (elim t [ true ↦ true | false ↦ among n rs ]) a
-    go true [] s q = absurd s
-    go true (b ∷ bs) s q = refl
-    go false bs s q = q
+any_found a n (r ∷ rs) all = grind (arith, any_found a n rs all.1, all.0)
 
 -- a container that is opened by a tag is closed by one, and no other is
 pub same-containers : {A : Type 0} (a : A) (k : ℕ) → if_any (find k closing) a ≡ if_any (find k opening) a
 unfolding All Some among bytes opening closing
 same-containers a k =
-    any_found a k closing (tt, (tt, (tt, (tt, (tt, (tt, (tt, (tt, (tt, (tt, tt))))))))))
-    ∙ sym (any_found a k opening (tt, (tt, (tt, (tt, (tt, (tt, (tt, (tt, (tt, (tt, tt)))))))))))
+    any_found a k closing (search rules)
+    ∙ sym (any_found a k opening (search rules))

@@ -1,7 +1,6 @@
 -- The fragment (document 02, L1): what is written of a list of events, by the text and the list alone.
 use Rattle.std.specs.Prelude.{ℕ, zero, suc, ◌-◌, List, [], ◌∷◌, ◌++◌, true, false, ◌||◌, ltb, eqb}
 use Prim.Native.Char.{code}
-use Prim.Native.String.{String}
 use Rattle.classes.specs.Classes.{bytes}
 use Rattle.reading.specs.declared.Event.{Event}
 use Rattle.reading.specs.Events.{str, softbreak, hardbreak, escape, nbsp, ellipsis, endash, emdash, left_single, right_single, left_double, right_double}

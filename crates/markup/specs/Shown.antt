@@ -1,5 +1,5 @@
 -- What a fragment shows, and what is claimed of it (document 02, L1): it is read back, byte by byte, into tags and characters.
-use Rattle.std.specs.Prelude.{ℕ, zero, suc, ◌+◌, ◌-◌, ◌≡◌, List, [], ◌∷◌, ◌++◌, map, Bool, true, false, ◌&&◌, ltb, eqb, length}
+use Rattle.std.specs.Prelude.{ℕ, zero, suc, ◌+◌, ◌-◌, ◌≡◌, List, [], ◌∷◌, ◌++◌, map, Bool, true, false, ◌&&◌, eqb, length}
 use Rattle.reading.specs.declared.Event.{Event}
 use Rattle.reading.specs.Events.{nowhere, enter_from, exit_from}
 use Rattle.reading.specs.Walked.{Walk, neither, walk_by, Matches}

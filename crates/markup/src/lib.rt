@@ -8,18 +8,14 @@ use reading::{container, kind};
 const EXIT_RAW_FORMAT: u32 = kind::EXIT + container::RAW_FORMAT;
 
 // How many raw parts are open behind an event, if n are before it.
+#[tactic(auto, unfolding(crate::specs::Markup::raw_behind))]
 pub fn raw_behind(n: usize, k: u32) -> usize
     requires { suc n < 2 ^ 64 }
     ensures { result ≡ raw_behind_of n k }
 {
-    if k == kind::ENTER_RAW_FORMAT {
-        return n + 1;
+    match k {
+        kind::ENTER_RAW_FORMAT => n + 1,
+        EXIT_RAW_FORMAT => n.saturating_sub(1),
+        _ => n,
     }
-    if k == EXIT_RAW_FORMAT {
-        if n == 0 {
-            return n;
-        }
-        return n - 1;
-    }
-    n
 }

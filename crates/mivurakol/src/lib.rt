@@ -4,11 +4,11 @@ ghost use Rattle.std.specs.Prelude.{◌≡◌, ◌+◌, ◌/◌, ◌≤◌, leng
 ghost use Rattle.reading.specs.Events.{event_numbers};
 ghost use Rattle.reading.specs.Questions.{total, outcome};
 ghost use Rattle.reading.specs.Walked.{Accepted, AcceptedHomes};
-ghost use Rattle.lookup.specs.Lookup.{home_in, label_of};
+ghost use Rattle.lookup.specs.Lookup.{source_in, label_of};
 ghost use Rattle.outcome.specs.Outcomes.{rooms_of, outcome_of};
 ghost use Rattle.mivurakol.specs.Values.{part_of, bytes_of};
 
-use reading::{Answer, IN_TEXT, Line, NO_HOME};
+use reading::{Answer, IN_TEXT, Line};
 
 // Bytes of the text (home 1) or of the label room (home 2).
 #[repr(C)]
@@ -48,22 +48,21 @@ pub extern "C" fn mivurakol_label(
     start: u32,
     end: u32,
 ) -> Part
-    ensures value { result ≡ part_of (home_in (length text.now) (length labels.now) home start end) start end }
+    ensures value { result ≡ part_of (source_in (length text.now) (length labels.now) home start end) start end }
     ensures labels_value { bytes_of result text.now labels.now ≡ label_of text.now labels.now home start end }
 {
     let from = start as usize;
     let to = end as usize;
-    let found = lookup::home_of(text.len(), labels.len(), home, from, to);
-    if found == NO_HOME {
-        return Part {
+    match lookup::source_of(text.len(), labels.len(), home, from, to) {
+        Some(source) => Part {
+            home: source.into(),
+            start: from,
+            len: to - from,
+        },
+        None => Part {
             home: IN_TEXT,
             start: 0,
             len: 0,
-        };
-    }
-    Part {
-        home: found,
-        start: from,
-        len: to - from,
+        },
     }
 }

@@ -1,42 +1,82 @@
 #![tactic(auto)]
 // Bytes written behind one another from the front of a lent room, as long as it holds them.
-ghost use Rattle.std.specs.Prelude.{◌≤◌, [], ◌∷◌, length};
-ghost use Rattle.output.specs.Written.{Wrote};
+ghost use Rattle.std.specs.Prelude.{◌≡◌, ℕ, ◌≤◌, ◌<◌, [], ◌∷◌, true, false, length, take, slice_index, Some};
 
 // The refusal of an output room that is too short.
 pub const OUTPUT_ROOM: u32 = 11;
 
-// So many bytes stand written; or they were more than the room holds.
-#[derive(Clone, Copy)]
-pub enum Fill {
-    To(usize),
-    Full,
+// A lent room, of which the first so many bytes are written.
+#[derive(Drop)]
+pub struct Output<'a> {
+    room: &'a mut [u8],
+    at: usize,
+    ghost within: { at ≤ length room.now },
 }
 
-// Some bytes behind the first so many.
-pub fn put(out: &mut [u8], at: usize, bytes: &[u8]) -> Fill
-    requires { at ≤ length out.old }
-    ensures { Wrote out.old at bytes.now result out.new }
-{
-    if out.len() - at < bytes.len() {
-        return Fill::Full;
-    }
-    let mut i = 0;
-    while i < bytes.len() {
-        out[at + i] = bytes[i];
-        i += 1;
-    }
-    Fill::To(at + i)
-}
+impl<'a> Output<'a> {
+    ghost use Rattle.output.specs.Written.{Adds};
 
-// One byte.
-pub fn put_byte(out: &mut [u8], at: usize, b: u8) -> Fill
-    requires { at ≤ length out.old }
-    ensures { Wrote out.old at (b ∷ []) result out.new }
-{
-    if at < out.len() {
-        out[at] = b;
-        return Fill::To(at + 1);
+    // Nothing is written yet.
+    pub fn new(room: &'a mut [u8]) -> Output<'a>
+        ensures lent { result.room.ghost_name ≡ room.entry.ghost_name }
+        ensures held { result.room.now ≡ room.old }
+        ensures at { result.at ≡ 0 }
+    {
+        Output { room, at: 0 }
     }
-    Fill::Full
+
+    // How many bytes are written.
+    pub fn count(&self) -> usize
+        ensures { result ≡ self.now.at }
+    {
+        self.at
+    }
+
+    // Some bytes more, or none of them, if they are more than the room holds.
+    pub fn put(&mut self, bytes: &[u8]) -> Option<()>
+        ensures { Adds self.old bytes.now result self.new }
+    {
+        if self.room.len() - self.at < bytes.len() {
+            return None;
+        }
+        let end = self.at + bytes.len();
+        self.room[self.at..end].copy_from_slice(bytes);
+        self.at = end;
+        Some(())
+    }
+
+    // One byte.
+    pub fn put_byte(&mut self, b: u8) -> Option<()>
+        ensures { Adds self.old (b ∷ []) result self.new }
+    {
+        if self.at == self.room.len() {
+            return None;
+        }
+        self.room[self.at] = b;
+        self.at += 1;
+        Some(())
+    }
+
+    // Bytes from the front of some, as long as they are such ones and the room holds them: how many
+    // these are.
+    pub fn put_while<F: Fn(u8) -> bool>(&mut self, bytes: &[u8], such: F) -> usize
+        requires { F.IsAlwaysCallable such }
+        ensures within { result ≤ length bytes.now }
+        ensures added { Adds self.old (take result bytes.now) (Some tt) self.new }
+        ensures kept { (k : ℕ) → k < result → F.post such (slice_index bytes.now k) true }
+        ensures stopped { result < length bytes.now → self.new.at < length self.new.room.now
+            → F.post such (slice_index bytes.now result) false }
+    {
+        let from = self.at;
+        let most = bytes.len().min(self.room.len() - from);
+        for (i, b) in bytes[..most].iter().enumerate() {
+            if !such(*b) {
+                self.at = from + i;
+                return i;
+            }
+            self.room[from + i] = *b;
+        }
+        self.at = from + most;
+        most
+    }
 }

@@ -1,4 +1,1 @@
-pub mod Ahead
-pub mod Caret
-pub mod Roles
-pub mod Alone
+pub mod Single

@@ -1,182 +1,145 @@
 #![tactic(auto)]
 // A token outside verbatim, in the order of the source's `parse_event`: backticks, a brace, the scans ahead, containers, dots and dashes. Only what
-// may end a link touches the label room; all else leaves it, whatever sheet the token is of, and is lifted in `outside`.
-ghost use Rattle.std.specs.Prelude.{List, ℕ, drop};
-ghost use Rattle.classes.specs.Classes.{Ruled};
+// may end a link touches the label room; all else leaves it, whatever sheet the token is of.
+ghost use Rattle.std.specs.Prelude.{drop};
 ghost use Rattle.scan.specs.Scans.{footnote_of};
 ghost use Rattle.reading.specs.Machine.{Rules, Sheet};
+ghost use Rattle.reading.specs.Events.{str};
+ghost use Rattle.reading.specs.Tokens.{plain, bracket};
+ghost use Rattle.reading.specs.Containers.{container};
 ghost use Rattle.reading.specs.Reading as spec;
-ghost use Rattle.rooms.specs.Standing.{viewed, here, Changed, Stepped};
+ghost use Rattle.rooms.specs.Standing.{viewed, here};
+ghost use Rattle.rooms.specs.Steps.{Stepped, Changed, Queued};
 ghost use Rattle.links.specs.Linked.{sheet_of};
 ghost use Rattle.containers.specs.Ready.{Ready, LabelRoom};
 ghost use Rattle.outside.specs.Outside.{Ended, TokenReady};
 
-use lex::Next;
 use reading::{LONGEST_RUN, Role, Sort, kind};
-use rooms::{Margin, Parser, Span};
-use scan::Ahead;
+use rooms::{Parser, Span, View};
+
+// A token that is Str.
+#[tactic(auto, using(crate::proofs::Single::queued_alone))]
+fn alone(p: &mut Parser, v: &View, h: Span)
+    requires { TokenReady (viewed v.now) h p.old }
+    ensures { (x : Sheet) → Queued p.old p.new (container x (viewed v.now) (here h p.old.at) (plain str)) }
+{
+    atoms::put(p, v, kind::STR, h);
+}
+
+// A token that opens a span.
+#[tactic(auto, using(crate::proofs::Single::changed_opening))]
+fn opens(p: &mut Parser, v: &View, h: Span)
+    requires { Ready (viewed v.now) h p.old }
+    ensures { (x : Sheet) → Changed p.old p.new (container x (viewed v.now) (here h p.old.at) bracket) }
+{
+    containers::open_as(p, v, h, Sort::Span);
+}
 
 // `<`: an autolink if the scan accepts.
-fn parse_autolink(
-    line: &[u8],
-    m: Margin,
-    h: Span,
-    p: Parser,
-    queue: &mut [u32],
-    flags: &[u8; 256],
-) -> Parser
-    requires token_ready { TokenReady line.now m h p queue.old }
-    requires ruled { Ruled flags.now }
-    ensures { (x : Sheet) (o : List ℕ) → Changed p queue.old o result queue.new o (spec.outside x (viewed m
-        line.now) (here h p) Role.Lt) }
+#[tactic(auto, unfolding(reading::specs::Reading::outside, reading::specs::Reading::angle))]
+fn parse_autolink(p: &mut Parser, v: &View, h: Span)
+    requires { TokenReady (viewed v.now) h p.old }
+    ensures { (x : Sheet) → Queued p.old p.new (spec.outside x (viewed v.now) (here h p.old.at) Role.Lt) }
 {
-    let Ahead::Some(n) = scan::ahead_autolink(line, h.to, flags) else {
-        return atoms::put(line, m, kind::STR, h, p, queue);
-    };
-    atoms::autolinked(m, h, n, p, queue)
+    match scan::ahead_autolink(v.bytes, h.to) {
+        Some(n) => atoms::autolinked(p, v, h, n),
+        None => alone(p, v, h),
+    }
 }
 
 // `:`: a symbol if the scan accepts.
-fn parse_symbol(
-    line: &[u8],
-    m: Margin,
-    h: Span,
-    p: Parser,
-    queue: &mut [u32],
-    flags: &[u8; 256],
-) -> Parser
-    requires token_ready { TokenReady line.now m h p queue.old }
-    requires ruled { Ruled flags.now }
-    ensures { (x : Sheet) (o : List ℕ) → Changed p queue.old o result queue.new o (spec.outside x (viewed m
-        line.now) (here h p) Role.Colon) }
+#[tactic(auto, unfolding(reading::specs::Reading::outside, reading::specs::Reading::colon))]
+fn parse_symbol(p: &mut Parser, v: &View, h: Span)
+    requires { TokenReady (viewed v.now) h p.old }
+    ensures { (x : Sheet) → Queued p.old p.new (spec.outside x (viewed v.now) (here h p.old.at) Role.Colon) }
 {
-    let Ahead::Some(n) = scan::ahead_symbol(line, h.to, flags) else {
-        return atoms::put(line, m, kind::STR, h, p, queue);
-    };
-    atoms::named(m, h, kind::SYMBOL, n, p, queue)
+    match scan::ahead_symbol(v.bytes, h.to) {
+        Some(n) => atoms::named(p, v, h, kind::SYMBOL, n),
+        None => alone(p, v, h),
+    }
 }
 
 // `[^`: a footnote reference if the scan accepts; otherwise one opener of two bytes.
-fn noted(
-    line: &[u8],
-    m: Margin,
-    h: Span,
-    p: Parser,
-    queue: &mut [u32],
-    openers: &mut [u32],
-    flags: &[u8; 256],
-) -> Parser
-    requires ready { Ready line.now m h p queue.old openers.old }
-    requires ruled { Ruled flags.now }
-    ensures { (x : Sheet) → Changed p queue.old openers.old result queue.new openers.new (spec.noted x
-        (viewed m line.now) (here h p) (footnote_of (drop h.to line.now))) }
+#[tactic(auto, unfolding(reading::specs::Reading::noted))]
+fn noted(p: &mut Parser, v: &View, h: Span)
+    requires { Ready (viewed v.now) h p.old }
+    ensures { (x : Sheet) → Changed p.old p.new (spec.noted x (viewed v.now) (here h p.old.at) (footnote_of (drop h.to v.now.bytes.now))) }
 {
-    let Ahead::Some(n) = scan::ahead_footnote(line, h.to, flags) else {
-        return containers::open_as(line, m, h, Sort::Span, p, queue, openers);
-    };
-    atoms::named(m, h, kind::FOOTNOTE_REFERENCE, n, p, queue)
+    match scan::ahead_footnote(v.bytes, h.to) {
+        Some(n) => atoms::named(p, v, h, kind::FOOTNOTE_REFERENCE, n),
+        None => opens(p, v, h),
+    }
 }
 
 // `[`: the next token is peeked at; with `^` behind it, and not `^}`, the two are one token.
-fn parse_footnote_reference(
-    line: &[u8],
-    m: Margin,
-    h: Span,
-    p: Parser,
-    queue: &mut [u32],
-    openers: &mut [u32],
-    flags: &[u8; 256],
-) -> Parser
-    requires ready { Ready line.now m h p queue.old openers.old }
-    requires ruled { Ruled flags.now }
-    ensures { (x : Sheet) → Changed p queue.old openers.old result queue.new openers.new (spec.outside x
-        (viewed m line.now) (here h p) Role.Bracket) }
+#[tactic(auto, unfolding(reading::specs::Reading::outside, reading::specs::Reading::bracketed))]
+fn parse_footnote_reference(p: &mut Parser, v: &View, h: Span)
+    requires { Ready (viewed v.now) h p.old }
+    ensures { (x : Sheet) → Changed p.old p.new (spec.outside x (viewed v.now) (here h p.old.at) Role.Bracket) }
 {
-    let c = p.cursor;
-    let ahead = lexer::peek_token(line, c, flags);
-    let held = ahead.cursor;
+    let ahead = lexer::peek_token(v.bytes, p.at.cursor);
+    p.at.cursor = ahead.cursor;
     let next = ahead.token;
-    let out = rooms::moved(p, held);
-    let Next::Some(t) = next else {
-        return containers::open_as(line, m, h, Sort::Span, out, queue, openers);
+    let Some(t) = next else {
+        opens(p, v, h);
+        return;
     };
-    let kind = t.kind;
-    if tables::is_caret(tables::role_of(kind)) {
-        let behind = held.skip(line, flags);
+    if tables::is_caret(tables::role_of(t.kind)) {
+        p.at.cursor = ahead.cursor.skip(v.bytes);
         let both = Span {
             from: h.from,
             to: h.to + t.len,
         };
-        return noted(
-            line,
-            m,
-            both,
-            rooms::moved(out, behind),
-            queue,
-            openers,
-            flags,
-        );
+        noted(p, v, both);
+        return;
     }
-    containers::open_as(line, m, h, Sort::Span, out, queue, openers)
+    opens(p, v, h);
 }
 
 // A run of more than 255 backticks opens nothing.
-fn backticks(line: &[u8], m: Margin, h: Span, p: Parser, queue: &mut [u32]) -> Parser
-    requires token_ready { TokenReady line.now m h p queue.old }
-    requires ended { Ended p queue.old }
-    ensures { (x : Sheet) (o : List ℕ) → Changed p queue.old o result queue.new o (spec.outside x (viewed m
-        line.now) (here h p) Role.Backticks) }
+#[tactic(auto, unfolding(reading::specs::Reading::outside))]
+fn backticks(p: &mut Parser, v: &View, h: Span)
+    requires token_ready { TokenReady (viewed v.now) h p.old }
+    requires ended { Ended p.old }
+    ensures { (x : Sheet) → Queued p.old p.new (spec.outside x (viewed v.now) (here h p.old.at) Role.Backticks) }
 {
     if h.to - h.from <= LONGEST_RUN {
-        return verbatim::opens_verbatim(m, h, p, queue);
+        verbatim::opens_verbatim(p, v, h);
+        return;
     }
-    atoms::put(line, m, kind::STR, h, p, queue)
+    alone(p, v, h);
 }
 
 // Two hyphens and more are dashes.
-fn hyphens(line: &[u8], m: Margin, h: Span, p: Parser, queue: &mut [u32]) -> Parser
-    requires { TokenReady line.now m h p queue.old }
-    ensures { (x : Sheet) (o : List ℕ) → Changed p queue.old o result queue.new o (spec.outside x (viewed m
-        line.now) (here h p) Role.Hyphens) }
+#[tactic(auto, unfolding(reading::specs::Reading::outside))]
+fn hyphens(p: &mut Parser, v: &View, h: Span)
+    requires { TokenReady (viewed v.now) h p.old }
+    ensures { (x : Sheet) → Queued p.old p.new (spec.outside x (viewed v.now) (here h p.old.at) Role.Hyphens) }
 {
     if h.to - h.from < 2 {
-        return atoms::put(line, m, kind::STR, h, p, queue);
+        alone(p, v, h);
+        return;
     }
-    atoms::dashes(m, h, p, queue)
+    atoms::dashes(p, v, h);
 }
 
 // A token outside verbatim.
-pub fn outside(
-    text: &[u8],
-    line: &[u8],
-    m: Margin,
-    h: Span,
-    role: Role,
-    p: Parser,
-    queue: &mut [u32],
-    openers: &mut [u32],
-    labels: &mut [u8],
-    flags: &[u8; 256],
-) -> Parser
-    requires ready { Ready line.now m h p queue.old openers.old }
-    requires label_room { LabelRoom p labels.old }
-    requires ended { Ended p queue.old }
-    requires ruled { Ruled flags.now }
-    ensures { (rules : Rules) → Stepped p queue.old openers.old labels.old result queue.new
-        openers.new labels.new (spec.outside (sheet_of rules text.now labels.old) (viewed m
-        line.now) (here h p) role) }
+#[tactic(auto, unfolding(reading::specs::Reading::outside, reading::specs::Reading::braced))]
+pub fn outside(p: &mut Parser, text: &[u8], v: &View, h: Span, role: Role)
+    requires ready { Ready (viewed v.now) h p.old }
+    requires label_room { LabelRoom p.old }
+    requires ended { Ended p.old }
+    ensures { (rules : Rules) → Stepped p.old p.new (spec.outside (sheet_of rules text.now p.old.labels.now) (viewed v.now) (here h p.old.at) role) }
 {
     match role {
-        Role::Backticks => backticks(line, m, h, p, queue),
-        Role::Brace => rooms::refusing(p, atoms::place_at(m, h.from)),
-        Role::Lt => parse_autolink(line, m, h, p, queue, flags),
-        Role::Colon => parse_symbol(line, m, h, p, queue, flags),
-        Role::Bracket => parse_footnote_reference(line, m, h, p, queue, openers, flags),
-        Role::Paren => atoms::put(line, m, kind::STR, h, p, queue),
-        Role::Periods => atoms::dots(line, m, h, p, queue),
-        Role::Hyphens => hyphens(line, m, h, p, queue),
-        Role::Other(k) => containers::parse_container(
-            text, line, m, h, k, p, queue, openers, labels, flags,
-        ),
+        Role::Backticks => backticks(p, v, h),
+        Role::Brace => p.at.refused = Some(v.place(h.from)),
+        Role::Lt => parse_autolink(p, v, h),
+        Role::Colon => parse_symbol(p, v, h),
+        Role::Bracket => parse_footnote_reference(p, v, h),
+        Role::Paren => alone(p, v, h),
+        Role::Periods => atoms::dots(p, v, h),
+        Role::Hyphens => hyphens(p, v, h),
+        Role::Other(k) => containers::parse_container(p, text, v, h, k),
     }
 }

@@ -1,4 +1,7 @@
--- There and back, of calls: what was packed is unpacked, what was unpacked is packed, and no list of a sheet that is read is refused for a fault.
+-- There and back, of calls: what was packed is unpacked, what was unpacked is packed, and no list
+-- of a sheet that is read is refused for a fault.
+use Rattle.std.proofs.lemmas.Bool.Decides.{nat_tests}
+use Rattle.std.specs.Prelude.{Some, None, Ok, Err}
 use Prim.Native.Nat.{ℕ, zero, suc, ◌+◌, ◌-◌, ◌*◌, ◌/◌, ◌≤◌, ◌<◌}
 use mathlib.Core.Path.{◌≡◌, refl, sym, ap, ◌∙◌}
 use mathlib.Core.List.{List, [], ◌∷◌, ◌++◌, append-nil}
@@ -20,12 +23,13 @@ use Rattle.rooms.proofs.Rows.{rows-length}
 use Rattle.listing.specs.Listing.{event_at, listed}
 use Rattle.listing.proofs.Listed.{listed-numbers, numbers-listed, numbers-length}
 use Rattle.groups.proofs.Numbers.{Bytes}
-use Rattle.packing.specs.Packed.{packed, Flawed, found, none, first_flaw}
-use Rattle.packing.specs.Unpacked.{Got, got, fault, unpacked}
+use Rattle.packing.specs.Packed.{packed, Flawed, first_flaw}
+use Rattle.packing.specs.Unpacked.{Got, unpacked}
 use Rattle.packing.proofs.Single.{Narrow}
 use Rattle.packing.proofs.Lists.{AllNarrow, Restored, unpack-packed, pack-unpacked, packed-size}
 use Rattle.packing.proofs.Sheets.{sheet-sound}
-use Rattle.packed.specs.Calls.{call, acceptance, whole, packing_as, packing, restored_as, told, unpacking, enough_bytes}
+use Rattle.encoder.specs.Encoding.{whole}
+use Rattle.packed.specs.Calls.{call, acceptance, packing_as, packing, restored_as, told, unpacking, enough_bytes}
 
 -- numbers of 32 bits
 abbrev pub Numbers : List ℕ → Type 0
@@ -50,16 +54,12 @@ whole_numbers es =
     (λ i. listed (count i) (sym (append-nil (numbers es)) i)) ∙ listed-numbers es []
 
 -- a list that is accepted has no flaw, and its bytes fit
-packing-accepted : (f : Flawed) (bs out : List ℕ) → (packing_as f bs out).answer.code ≡ 0 → (f ≡ none) × (packing_as f bs out ≡ call (acceptance (length bs)) (filled bs out))
+packing-accepted : (f : Flawed) (bs out : List ℕ) → (packing_as f bs out).answer.code ≡ 0 → (f ≡ None) × (packing_as f bs out ≡ call (acceptance (length bs)) (filled bs out))
 unfolding packing_as
-packing-accepted (found f i) bs out c = absurd (omega (arith, c))
-packing-accepted none bs out c = go (leb (length bs) (length out)) refl
-  where
-    go : (t : Bool) → leb (length bs) (length out) ≡ t → (none ≡ none) × (packing_as none bs out ≡ call (acceptance (length bs)) (filled bs out))
-    go true t = (refl, rw (t, packing_as))
-    go false t = absurd (omega (arith, rw (t, packing_as) at c))
+packing-accepted (Some f) bs out c = absurd (omega (arith, c))
+packing-accepted None bs out c = grind (arith, nat_tests)
 
-accepted-packing : (f : Flawed) (bs out : List ℕ) → f ≡ none → length bs ≤ length out → packing_as f bs out ≡ call (acceptance (length bs)) (filled bs out)
+accepted-packing : (f : Flawed) (bs out : List ℕ) → f ≡ None → length bs ≤ length out → packing_as f bs out ≡ call (acceptance (length bs)) (filled bs out)
 unfolding packing_as
 accepted-packing f bs out e l = ap (λ (x : Flawed). packing_as x bs out) e ∙ rw (le-leb (length bs) (length out) l, packing_as)
 
@@ -68,12 +68,10 @@ filled-front : (l room : List ℕ) (n : ℕ) → length l ≡ n → take n (fill
 filled-front l room n e = take_at l (replicate (length room - length l) 0) n e
 
 -- the same of bytes that are read
-unpacking-read : (bs room : List ℕ) (es : List Event) (m : ℕ) → unpacked bs ≡ got es m → length es ≤ length room / event_numbers
+unpacking-read : (bs room : List ℕ) (es : List Event) (m : ℕ) → unpacked bs ≡ Ok (es, m) → length es ≤ length room / event_numbers
     → unpacking bs room ≡ call (acceptance (length es)) (filled (numbers es) room)
 unfolding restored_as told
-unpacking-read bs room es m e l =
-    ap (λ (g : Got (List Event)). call (told (restored_as g room).answer) (restored_as g room).room) e
-    ∙ rw (le-leb (length es) (length room / event_numbers) l, restored_as, told)
+unpacking-read bs room es m e l = grind (arith, nat_tests)
 
 -- unpacking a packed list restores it
 pub there_and_back : (events out room : List ℕ) → Numbers events → (packing events out).answer.code ≡ 0 → length events / event_numbers ≤ length room / event_numbers
@@ -99,8 +97,8 @@ back-and-there bs room out y c l = by (unpacked bs) refl c
     by : (g : Got (List Event)) → unpacked bs ≡ g → (told (restored_as g room).answer).code ≡ 0
         → let u = unpacking bs room in
         packing (take (u.answer.count * event_numbers) u.room) out ≡ call (acceptance (length bs)) (filled bs out)
-    by (fault w p) e c = absurd (omega (arith, c))
-    by (got es m) e c = go (leb (length es) (length room / event_numbers)) refl
+    by (Err w) e c = absurd (omega (arith, c))
+    by (Ok (es, m)) e c = go (leb (length es) (length room / event_numbers)) refl
       where
         r : Restored bs es
         r = pack-unpacked bs y es m e
@@ -138,7 +136,7 @@ module _ (text : List ℕ) (ls : List Line) (reading : ℕ) (rooms : Rooms) (e :
       let a = accepted text ls reading rooms e in
       omega (arith, a.count, ap length a.handed, length-append (numbers es) (replicate (length rooms.events - length (numbers es)) 0), numbers-length es)
 
-  pub sheet-packs : (out : List ℕ) → packing list out ≡ packing_as none (packed es) out
+  pub sheet-packs : (out : List ℕ) → packing list out ≡ packing_as None (packed es) out
   sheet-packs out =
       ap (λ (l : List ℕ). packing l out) handed
       ∙ (λ i. packing_as (first_flaw 0 0 (whole_numbers es i)) (packed (whole_numbers es i)) out)
@@ -149,4 +147,4 @@ module _ (text : List ℕ) (ls : List Line) (reading : ℕ) (rooms : Rooms) (e :
   sheet-packed out h =
       let a = accepted text ls reading rooms e in
       let size = (packed-size es (sheet-sound text ls reading rooms e)).1 in
-      sheet-packs out ∙ accepted-packing none (packed es) out refl (omega (arith, h, size, a.count))
+      sheet-packs out ∙ accepted-packing None (packed es) out refl (omega (arith, h, size, a.count))

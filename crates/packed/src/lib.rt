@@ -1,19 +1,17 @@
 #![tactic(auto)]
 // A packed list of events: the calls that write one and read one.
-ghost use Rattle.std.specs.Prelude.{◌≡◌, true, ◌*◌, ◌/◌, ◌≤◌, length};
+ghost use Rattle.std.specs.Prelude.{◌≡◌, ◌*◌, ◌/◌, ◌≤◌, length, IfOk, Some};
 ghost use Rattle.reading.specs.Events.{event_numbers};
-ghost use Rattle.reading.specs.Questions.{zeros};
-ghost use Rattle.encoder.specs.Encoding.{Within};
-ghost use Rattle.packed.specs.Calls.{call, refusal as refusal_of, acceptance as acceptance_of, packing, unpacking};
-ghost use Rattle.packed.specs.Calls.{restoring, restored, enough_bytes, enough_events};
-ghost use Rattle.packed.specs.Settling.{wrote_as, read_as};
+ghost use Rattle.packed.specs.declared.UnpackError.TheVariants.{Faulty};
+ghost use Rattle.packed.specs.Calls.{call, refusal as refusal_of, acceptance as acceptance_of, packing, unpacking, written, told};
+ghost use Rattle.packed.specs.Calls.{restoring, settled, restored, meaning, enough_bytes, enough_events};
 
-use decoder::{Ended, Read};
-use encoder::Put;
-use packing::Fault;
+use encoder::PutError;
+use packing::FaultAt;
 use reading::EVENT_NUMBERS;
+use std::fmt;
 
-// The refusals: a fault, and room that is too short.
+// The refusals, in numbers for C: a fault, and room that is too short.
 pub const FAULTY: u32 = 12;
 
 pub const PACKED_ROOM: u32 = 13;
@@ -27,52 +25,77 @@ pub struct PackedAnswer {
     pub count: u64,
 }
 
-// What comes of a packed list: so many events; a fault, and its place; or too little room.
-#[derive(Clone, Copy)]
-pub enum Restored {
-    All(usize),
-    Faulty(Fault, usize),
+// Why a list is not unpacked: a fault, or more events than the room holds.
+#[derive(Clone, Copy, Debug, PartialEq, Eq)]
+pub enum UnpackError {
+    Faulty(FaultAt),
     Short,
 }
 
-// Nothing is written.
-fn refusal(code: u32, place: usize) -> PackedAnswer
-    ensures { result ≡ refusal_of code place }
-{
-    PackedAnswer {
-        code: code,
-        place: place as u64,
-        count: 0,
+impl fmt::Display for UnpackError {
+    ghost output = { λ e. Some (meaning e) };
+
+    fn fmt<W: fmt::Write>(&self, f: &mut fmt::Formatter<W>) -> fmt::Result {
+        match self {
+            UnpackError::Faulty(at) => at.fault.fmt(f),
+            UnpackError::Short => f.write_str("the events are more than the event room holds"),
+        }
     }
 }
 
-fn acceptance(count: usize) -> PackedAnswer
-    ensures { result ≡ acceptance_of count }
-{
-    PackedAnswer {
-        code: 0,
-        place: 0,
-        count: count as u64,
+impl From<FaultAt> for UnpackError {
+    ghost from_gives = { λ f e. e ≡ Faulty f };
+
+    fn from(f: FaultAt) -> UnpackError {
+        UnpackError::Faulty(f)
     }
 }
 
-// The output behind what was written.
-fn settle(r: Put, out: &mut [u8]) -> PackedAnswer
-    requires { Within r (length out.old) }
-    ensures { call result out.new ≡ wrote_as r out.old }
-{
-    match r {
-        Put::To(n) => {
-            outcome::clear_bytes_behind(out, n);
-            acceptance(n)
+impl PackedAnswer {
+    // Nothing is written.
+    fn refusal(code: u32, place: usize) -> PackedAnswer
+        ensures { result ≡ refusal_of code place }
+    {
+        PackedAnswer {
+            code,
+            place: place as u64,
+            count: 0,
         }
-        Put::Flaw(i) => {
-            outcome::clear_bytes(out);
-            refusal(FAULTY, i)
+    }
+
+    fn acceptance(count: usize) -> PackedAnswer
+        ensures { result ≡ acceptance_of count }
+    {
+        PackedAnswer {
+            code: 0,
+            place: 0,
+            count: count as u64,
         }
-        Put::Full => {
-            outcome::clear_bytes(out);
-            refusal(PACKED_ROOM, 0)
+    }
+}
+
+impl From<Result<usize, PutError>> for PackedAnswer {
+    ghost from_gives = { λ r a. a ≡ written r };
+
+    #[tactic(auto, unfolding(crate::specs::Calls::written))]
+    fn from(r: Result<usize, PutError>) -> PackedAnswer {
+        match r {
+            Ok(n) => PackedAnswer::acceptance(n),
+            Err(PutError::Flaw(i)) => PackedAnswer::refusal(FAULTY, i),
+            Err(PutError::Full) => PackedAnswer::refusal(PACKED_ROOM, 0),
+        }
+    }
+}
+
+impl From<Result<usize, UnpackError>> for PackedAnswer {
+    ghost from_gives = { λ r a. a ≡ told r };
+
+    #[tactic(auto, unfolding(crate::specs::Calls::told))]
+    fn from(r: Result<usize, UnpackError>) -> PackedAnswer {
+        match r {
+            Ok(n) => PackedAnswer::acceptance(n),
+            Err(UnpackError::Faulty(f)) => PackedAnswer::refusal(FAULTY, f.place),
+            Err(UnpackError::Short) => PackedAnswer::refusal(PACKED_ROOM, 0),
         }
     }
 }
@@ -82,51 +105,31 @@ pub fn pack(events: &[u32], out: &mut [u8]) -> PackedAnswer
     ensures as_defined { call result out.new ≡ packing events.now out.old }
     ensures room_suffices { enough_bytes (length events.now / event_numbers) ≤ length out.old → result.code ≡ 13 → ⊥ }
 {
-    let n = events.len() / EVENT_NUMBERS;
-    let r = encoder::put_list(events, n, out);
-    settle(r, out)
+    let packed = encoder::put_list(events, out);
+    out[packed.unwrap_or(0)..].fill(0);
+    PackedAnswer::from(packed)
 }
 
-// No events.
-fn refuse(r: Restored, events: &mut [u32]) -> Restored
-    ensures { restoring result events.new ≡ restoring r (zeros events.old) }
+// The events of a list, if the room holds them.
+fn events_of(bytes: &[u8], room: &mut [u32]) -> Result<usize, UnpackError>
+    ensures as_defined { settled result room.new ≡ restored bytes.now room.old }
+    ensures count_in_bounds { IfOk result (λ n. n ≤ length room.old / event_numbers) }
 {
-    outcome::clear(events);
-    r
-}
-
-// The events behind those that were read.
-fn conclude(fits: bool, n: usize, r: Ended, events: &mut [u32]) -> Restored
-    requires { fits ≡ true → n * event_numbers ≤ length events.old }
-    ensures { restoring result events.new ≡ read_as fits n r events.old }
-{
-    match r {
-        Ended::At(_) => {
-            if fits {
-                let records = n * EVENT_NUMBERS;
-                outcome::clear_behind(events, records);
-                return Restored::All(n);
-            }
-            refuse(Restored::Short, events)
-        }
-        Ended::Fault(f, p) => refuse(Restored::Faulty(f, p), events),
+    let n = decoder::list(bytes, room)?;
+    if n > room.len() / EVENT_NUMBERS {
+        return Err(UnpackError::Short);
     }
+    Ok(n)
 }
 
 // Unpacks a list, and says which fault it has.
-pub fn restore(bytes: &[u8], events: &mut [u32]) -> Restored
+pub fn restore(bytes: &[u8], events: &mut [u32]) -> Result<usize, UnpackError>
     ensures { restoring result events.new ≡ restored bytes.now events.old }
 {
-    let first = decoder::number_at(bytes, 0);
-    match first {
-        Read::Number(n, at) => {
-            let count = n as usize;
-            let fits = count <= events.len() / EVENT_NUMBERS;
-            let r = decoder::events_from(bytes, at, count, fits, events);
-            conclude(fits, count, r, events)
-        }
-        Read::Fault(f, p) => refuse(Restored::Faulty(f, p), events),
-    }
+    let unpacked = events_of(bytes, events);
+    let records = unpacked.unwrap_or(0);
+    events[records * EVENT_NUMBERS..].fill(0);
+    unpacked
 }
 
 // Unpacks a list.
@@ -134,10 +137,5 @@ pub fn unpack(bytes: &[u8], events: &mut [u32]) -> PackedAnswer
     ensures as_defined { call result events.new ≡ unpacking bytes.now events.old }
     ensures room_suffices { enough_events (length bytes.now) ≤ length events.old / event_numbers → result.code ≡ 13 → ⊥ }
 {
-    let r = restore(bytes, events);
-    match r {
-        Restored::All(n) => acceptance(n),
-        Restored::Faulty(_, p) => refusal(FAULTY, p),
-        Restored::Short => refusal(PACKED_ROOM, 0),
-    }
+    PackedAnswer::from(restore(bytes, events))
 }

@@ -1,5 +1,9 @@
--- There and back, of a list of events: unpacking a packed list restores it, and packing an unpacked one restores the bytes. So the writer accepts exactly what the
--- reader can give. And how long a packed list can get.
+-- There and back, of a list of events: unpacking a packed list restores it, and packing an unpacked
+-- one restores the bytes. So the writer accepts exactly what the reader can give. And how long a
+-- packed list can get.
+use Rattle.std.proofs.lemmas.Bool.Decides.{nat_tests}
+use Rattle.std.specs.Prelude.{Some, None, Ok}
+use Rattle.std.specs.Option.{option_or}
 use Prim.Native.Nat.{ℕ, zero, suc, ◌+◌, ◌*◌, ◌≤◌, ◌<◌}
 use mathlib.Core.Path.{◌≡◌, refl, sym, ap, ◌∙◌, subst}
 use mathlib.Core.List.{List, [], ◌∷◌, ◌++◌, append-nil}
@@ -14,10 +18,10 @@ use Rattle.groups.specs.Groups.{spelled, spelled_all}
 use Rattle.groups.proofs.Numbers.{limit, Bytes, bytes-none, bytes-append, groups-bytes, groups-size, spelled-append}
 use Rattle.groups.proofs.Turns.{spelled-one}
 use Rattle.packing.specs.declared.Fault.TheVariants.{Rest}
-use Rattle.packing.specs.Packed.{largest, given, fields, fields_all, packed, Flawed, none, or_else, flaw_of, first_flaw}
-use Rattle.packing.specs.Unpacked.{got, on, a_number, if_sound, events_from, at_end, unpacked}
-use Rattle.packing.proofs.Stands.{Stands, Small, spelled-stands, stands-spelled, stands-append, stands_parts, small-append, small-parts}
-use Rattle.packing.proofs.Single.{Writable, Narrow, else-none, flaw-none, writable-none, on_then, on-got, numbers-read, Read, event-found}
+use Rattle.packing.specs.Packed.{largest, given, fields, fields_all, packed, Flawed, flaw_of, first_flaw}
+use Rattle.packing.specs.Unpacked.{Got, a_number, if_sound, events_from, at_end, unpacked}
+use Rattle.packing.proofs.Stands.{same-got, Stands, Small, spelled-stands, stands-spelled, stands-append, stands_parts, small-append, small-parts}
+use Rattle.packing.proofs.Single.{Writable, Narrow, flaw-none, writable-none, on_then, on-got, numbers-read, Read, event-found}
 use Rattle.packing.proofs.Single.{known-low, home-low, fields-small, link-small}
 
 -- each event can be written behind the one before it
@@ -31,7 +35,11 @@ AllNarrow [] = Unit {0}
 AllNarrow (e ∷ es) = Narrow e × AllNarrow es
 
 -- no flaw, with i events before
-pub first-none : (i prev : ℕ) (es : List Event) → i ≤ largest → first_flaw i prev es ≡ none → AllWritable prev es × (i + length es ≤ largest)
+else-none : (a b : Flawed) → option_or a b ≡ None → (a ≡ None) × (b ≡ None)
+else-none (Some f) b e = cc
+else-none None b e = (refl, e)
+
+pub first-none : (i prev : ℕ) (es : List Event) → i ≤ largest → first_flaw i prev es ≡ None → AllWritable prev es × (i + length es ≤ largest)
 unfolding first_flaw AllWritable
 first-none i prev [] l h = (tt, omega arith)
 first-none i prev (e ∷ es) l h =
@@ -40,19 +48,17 @@ first-none i prev (e ∷ es) l h =
     let c = first-none (suc i) e.end.0 es b.1 a.1 in
     ((b.0, c.0), omega (arith, c.1))
 
-pub none_first : (i prev : ℕ) (es : List Event) → AllWritable prev es → i + length es ≤ largest → first_flaw i prev es ≡ none
-unfolding first_flaw AllWritable or_else
+pub none_first : (i prev : ℕ) (es : List Event) → AllWritable prev es → i + length es ≤ largest → first_flaw i prev es ≡ None
+unfolding first_flaw AllWritable
 none_first i prev [] w l = refl
-none_first i prev (e ∷ es) w l =
-    ap (λ (f : Flawed). or_else f (first_flaw (suc i) e.end.0 es)) (writable-none i prev e w.0 (omega arith))
-    ∙ none_first (suc i) e.end.0 es w.1 (omega arith)
+none_first i prev (e ∷ es) w l = rw (writable-none i prev e w.0 (omega arith)) (none_first (suc i) e.end.0 es w.1 (omega arith))
 
 module _ (bytes : List ℕ) where
   -- numbers that stand there are read
   all_read : (prev at : ℕ) (es : List Event) (to : ℕ) → AllWritable prev es → AllNarrow es → Stands bytes at (fields_all prev es) to
-      → events_from bytes (length es) prev at ≡ got es to
+      → events_from bytes (length es) prev at ≡ Ok (es, to)
   unfolding AllWritable AllNarrow Stands fields_all events_from
-  all_read prev at [] to w n s = ap (got []) s
+  all_read prev at [] to w n s = ap (λ (k : ℕ). Ok ([], k)) s
   all_read prev at (e ∷ es) to w n s =
       let p = stands_parts bytes at (fields prev e) (fields_all e.end.0 es) to s in
       on_then _ (numbers-read bytes e prev at p.0 w.0 n.0 p.1)
@@ -79,15 +85,14 @@ module _ (bytes : List ℕ) where
             (record { end = r.end; home = r.home; link = link-small prev e r.writable p.0 }, f.narrow p.1);
       }
 
-  found_as : (n prev at : ℕ) (ds es : List Event) (m to : ℕ) → got ds m ≡ got es to → Found n prev at ds m → Found n prev at es to
+  found_as : (n prev at : ℕ) (ds es : List Event) (m to : ℕ) → ◌≡◌ {A = Got (List Event)} (Ok (ds, m)) (Ok (es, to)) → Found n prev at ds m → Found n prev at es to
   found_as n prev at ds es m to h f =
-      let same : ds ≡ es = cc in
-      let there : m ≡ to = cc in
-      subst (λ (k : ℕ). Found n prev at es k) there (subst (λ (x : List Event). Found n prev at x m) same f)
+      let same = same-got ds es m to h in
+      subst (λ (k : ℕ). Found n prev at es k) same.1 (subst (λ (x : List Event). Found n prev at x m) same.0 f)
 
-  all_found : (n prev at : ℕ) (es : List Event) (to : ℕ) → events_from bytes n prev at ≡ got es to → Found n prev at es to
+  all_found : (n prev at : ℕ) (es : List Event) (to : ℕ) → events_from bytes n prev at ≡ Ok (es, to) → Found n prev at es to
   unfolding events_from AllWritable AllNarrow Stands fields_all
-  all_found zero prev at es to h = found_as 0 prev at [] es at to h (record { count = refl; writable = tt; stands = refl; narrow = λ s. tt })
+  all_found zero prev at es to h = grind (arith, nat_tests)
   all_found (suc n) prev at es to h =
       let a = on-got _ _ _ _ h in
       let b = on-got _ _ _ _ a.3 in
@@ -102,26 +107,15 @@ all_small prev (e ∷ es) w n =
 
 -- a list whose numbers stand in some bytes, to their end
 list_read : (bytes : List ℕ) (es : List Event) (to : ℕ) → AllWritable 0 es → AllNarrow es → Stands bytes 0 (length es ∷ fields_all 0 es) to → length bytes ≤ to
-    → unpacked bytes ≡ got es to
+    → unpacked bytes ≡ Ok (es, to)
 unfolding Stands if_sound
 list_read bytes es to w n s l =
     on_then _ s.1
     ∙ on_then _ (all_read bytes 0 s.0 es to w n s.2)
     ∙ ap (λ (b : Bool). if_sound b Rest to es to) (le-leb (length bytes) to l)
 
--- as many events are read as the count says
-pub list_count : (bytes : List ℕ) (n at : ℕ) (es : List Event) (to : ℕ) → on (at_end bytes) (events_from bytes n 0 at) ≡ got es to → length es ≡ n
-unfolding if_sound
-list_count bytes n at es to h =
-    let r = on-got _ _ _ _ h in
-    by r.0 r.1 (all_found bytes n 0 at r.0 r.1 r.2).count (leb (length bytes) r.1) r.3
-  where
-    by : (ds : List Event) (m : ℕ) → length ds ≡ n → (t : Bool) → if_sound t Rest m ds m ≡ got es to → length es ≡ n
-    by ds m c true e = let same : ds ≡ es = cc in ap length (sym same) ∙ c
-    by ds m c false e = let z : ◌≡◌ {A = ℕ} 0 1 = cc in absurd (omega arith)
-
 -- unpacking a packed list restores it
-pub unpack-packed : (es : List Event) → AllNarrow es → first_flaw 0 0 es ≡ none → unpacked (packed es) ≡ got es (length (packed es))
+pub unpack-packed : (es : List Event) → AllNarrow es → first_flaw 0 0 es ≡ None → unpacked (packed es) ≡ Ok (es, length (packed es))
 unfolding Small
 unpack-packed es n h =
     let w = first-none 0 0 es (omega arith) h in
@@ -134,13 +128,13 @@ unpack-packed es n h =
 -- packing an unpacked list restores the bytes, and the writer has nothing against it
 pub record Restored (bytes : List ℕ) (es : List Event) : Type 0 where
   pub same : packed es ≡ bytes
-  pub sound : first_flaw 0 0 es ≡ none
+  pub sound : first_flaw 0 0 es ≡ None
   pub narrow : AllNarrow es
 
 module _ (bytes : List ℕ) (y : Bytes bytes) where
   -- the count, the events and the end, each read where the one before it ends
-  restored-of : (n m : ℕ) (ds : List Event) (k : ℕ) (es : List Event) (to : ℕ) → a_number bytes 0 ≡ got n m → events_from bytes n 0 m ≡ got ds k
-      → at_end bytes ds k ≡ got es to → Restored bytes es
+  restored-of : (n m : ℕ) (ds : List Event) (k : ℕ) (es : List Event) (to : ℕ) → a_number bytes 0 ≡ Ok (n, m) → events_from bytes n 0 m ≡ Ok (ds, k)
+      → at_end bytes ds k ≡ Ok (es, to) → Restored bytes es
   unfolding Stands Small if_sound
   restored-of n m ds k es to a b c = by (leb (length bytes) k) refl c
     where
@@ -148,7 +142,7 @@ module _ (bytes : List ℕ) (y : Bytes bytes) where
       f = all_found bytes n 0 m ds k b
 
       stands : Stands bytes 0 (length ds ∷ fields_all 0 ds) k
-      stands = (m, a ∙ ap (λ (j : ℕ). got j m) (sym f.count), f.stands)
+      stands = (m, a ∙ ap (λ (j : ℕ). Ok (j, m)) (sym f.count), f.stands)
 
       parts : (bytes ≡ packed ds ++ drop k bytes) × Small (length ds ∷ fields_all 0 ds)
       parts = stands-spelled bytes 0 (length ds ∷ fields_all 0 ds) k y stands
@@ -161,11 +155,11 @@ module _ (bytes : List ℕ) (y : Bytes bytes) where
             narrow = f.narrow parts.1.1;
           }
 
-      by : (t : Bool) → leb (length bytes) k ≡ t → if_sound t Rest k ds k ≡ got es to → Restored bytes es
-      by true l c = let same : ds ≡ es = cc in subst (Restored bytes) same (restored (leb-true (length bytes) k l))
-      by false l c = let z : ◌≡◌ {A = ℕ} 0 1 = cc in absurd (omega arith)
+      by : (t : Bool) → leb (length bytes) k ≡ t → if_sound t Rest k ds k ≡ Ok (es, to) → Restored bytes es
+      by true l c = subst (Restored bytes) (same-got ds es k to c).0 (restored (leb-true (length bytes) k l))
+      by false l c = cc
 
-  pub pack-unpacked : (es : List Event) (to : ℕ) → unpacked bytes ≡ got es to → Restored bytes es
+  pub pack-unpacked : (es : List Event) (to : ℕ) → unpacked bytes ≡ Ok (es, to) → Restored bytes es
   pack-unpacked es to h =
       let a = on-got _ _ _ _ h in
       let b = on-got _ _ _ _ a.3 in
@@ -176,7 +170,7 @@ unfolding Small spelled_all limit
 spelled-bytes [] s = bytes-none
 spelled-bytes (n ∷ ns) s = bytes-append (spelled n) (spelled_all ns) (groups-bytes 4 n (omega (arith, s.0))) (spelled-bytes ns s.1)
 
-pub packed-bytes : (es : List Event) → AllNarrow es → first_flaw 0 0 es ≡ none → Bytes (packed es)
+pub packed-bytes : (es : List Event) → AllNarrow es → first_flaw 0 0 es ≡ None → Bytes (packed es)
 unfolding Small
 packed-bytes es n h =
     let w = first-none 0 0 es (omega arith) h in
@@ -184,10 +178,10 @@ packed-bytes es n h =
 
 -- some bytes are read as a list
 abbrev pub Given : List Event → Type 0
-Given es = (bytes : List ℕ) × Bytes bytes × (unpacked bytes ≡ got es (length bytes))
+Given es = (bytes : List ℕ) × Bytes bytes × (unpacked bytes ≡ Ok (es, length bytes))
 
 -- the writer accepts exactly what the reader can give
-pub accepts-given : (es : List Event) → AllNarrow es → (first_flaw 0 0 es ≡ none) ↔ Given es
+pub accepts-given : (es : List Event) → AllNarrow es → (first_flaw 0 0 es ≡ None) ↔ Given es
 accepts-given es n = (
   λ h. (packed es, packed-bytes es n h, unpack-packed es n h),
   λ g. (pack-unpacked g.0 g.1 es (length g.0) g.2).sound,
@@ -239,5 +233,5 @@ events-size prev (e ∷ es) w =
     (omega (arith, z, a.0, b.0), omega (arith, z, a.1, b.1))
 
 -- a list takes 4 bytes an event and one more at least, and 27 an event and 5 more at most
-pub packed-size : (es : List Event) → first_flaw 0 0 es ≡ none → (4 * length es + 1 ≤ length (packed es)) × (length (packed es) ≤ 27 * length es + 5)
+pub packed-size : (es : List Event) → first_flaw 0 0 es ≡ None → (4 * length es + 1 ≤ length (packed es)) × (length (packed es) ≤ 27 * length es + 5)
 packed-size es h = sized-more (length es) (fields_all 0 es) (4 * length es) (27 * length es) (events-size 0 es (first-none 0 0 es (omega arith) h).0)

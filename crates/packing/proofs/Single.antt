@@ -1,20 +1,23 @@
--- One event: what the writer accepts of it is what the reader can give, and its numbers are read back.
+-- One event: what the writer accepts of it is what the reader can give, and its numbers are read
+-- back.
+use Rattle.std.specs.Prelude.{None, Ok, Err}
 use Prim.Native.Nat.{ℕ, ◌+◌, ◌-◌, ◌≤◌, ◌<◌}
 use mathlib.Core.Path.{◌≡◌, refl, ap, ◌∙◌, subst}
 use mathlib.Core.List.{List, [], ◌∷◌}
-use mathlib.Core.Bool.{Bool, true, false, ◌||◌, and-eq-true_iff}
+use mathlib.Core.Bool.{Bool, true, false}
+use Rattle.std.proofs.lemmas.Bool.Decides.{nat_tests}
 use native.Mathlib.Omega.{arith}
-use borrow.Author.Tests.{leb-true, ltb-true, eqb-true, le-leb, lt-ltb, eq-eqb}
-use lib.Dec.{leb, ltb, eqb}
+use borrow.Author.Tests.{leb-true, le-leb}
+use lib.Dec.{leb}
 use Rattle.reading.specs.declared.Event.{Event}
 use Rattle.reading.specs.declared.Home.{Home}
 use Rattle.reading.specs.Events.{place, link, homed, home_of}
-use Rattle.reading.specs.Homes.{container_of, known, has_home, has_link}
+use Rattle.reading.specs.Homes.{container_of, known, has_link}
 use Rattle.packing.specs.declared.Fault.{Fault}
 use Rattle.packing.specs.declared.Fault.TheVariants.{Beyond, UnknownKind, WrongHome}
-use Rattle.packing.specs.Packed.{largest, present, given, fields, Flaw, Flawed, found, none, or_else, may_have, idle, unless, flaw_of}
-use Rattle.packing.specs.Unpacked.{Got, got, fault, Reads, on, a_number, if_sound, a_sum, a_kind, a_home, optional, home_from, event_from}
-use Rattle.packing.proofs.Stands.{Stands, Small, given-read, read-given, read_none}
+use Rattle.packing.specs.Packed.{largest, present, given, fields, may_have, idle, unless, flaw_of}
+use Rattle.packing.specs.Unpacked.{Got, Reads, on, a_number, if_sound, a_sum, a_kind, a_home, optional, home_from, event_from}
+use Rattle.packing.proofs.Stands.{same-got, Stands, Small, given-read, read-given, read_none}
 
 -- an event that can be written behind one that ends at prev
 pub record Writable (prev : ℕ) (e : Event) : Type 0 where
@@ -32,123 +35,68 @@ pub record Narrow (e : Event) : Type 0 where
   pub home : e.home_end.0 ≤ largest
   pub link : e.link.0 ≤ largest
 
-or_right : (a b : Bool) → (a || b) ≡ true → a ≡ false → b ≡ true
-or_right true b e f = let z : ◌≡◌ {A = ℕ} 0 1 = cc in absurd (omega arith)
-or_right false b e f = e
-
-or-either : (a b : Bool) → (a ≡ false → b ≡ true) → (a || b) ≡ true
-or-either true b f = refl
-or-either false b f = f refl
-
--- no flaw of two, and none of one
-pub else-none : (a b : Flawed) → or_else a b ≡ none → (a ≡ none) × (b ≡ none)
-unfolding or_else
-else-none (found f i) b e = let z : ◌≡◌ {A = ℕ} 0 1 = cc in absurd (omega arith)
-else-none none b e = (refl, e)
-
-none-else : (a b : Flawed) → a ≡ none → b ≡ none → or_else a b ≡ none
-unfolding or_else
-none-else a b x y = ap (λ (f : Flawed). or_else f b) x ∙ y
-
-unless-none : (b : Bool) (f : Flaw) (i : ℕ) → unless b f i ≡ none → b ≡ true
-unfolding unless
-unless-none true f i e = refl
-unless-none false f i e = let z : ◌≡◌ {A = ℕ} 0 1 = cc in absurd (omega arith)
-
-none-unless : (b : Bool) (f : Flaw) (i : ℕ) → b ≡ true → unless b f i ≡ none
-unfolding unless
-none-unless b f i e = ap (λ (t : Bool). unless t f i) e
-
 module _ (i prev : ℕ) (e : Event) where
-  pub flaw-none : flaw_of i prev e ≡ none → Writable prev e × (i < largest)
-  unfolding flaw_of idle
-  flaw-none h =
-      let a = else-none _ _ h in
-      let b = else-none _ _ a.1 in
-      let c = else-none _ _ b.1 in
-      let d = else-none _ _ c.1 in
-      let f = else-none _ _ d.1 in
-      let spans = (and-eq-true_iff _ _).0 (unless-none _ _ i c.0) in
-      let idles = (and-eq-true_iff _ _).0 (unless-none _ _ i f.0) in (
-        record {
-          kind = unless-none _ _ i a.0;
-          home = unless-none _ _ i b.0;
-          span = leb-true _ _ spans.0;
-          range = leb-true _ _ spans.1;
-          late = leb-true _ _ (unless-none _ _ i d.0);
-          homeless = λ z. let y = (and-eq-true_iff _ _).0 (or_right _ _ idles.0 z) in (eqb-true _ _ y.0, eqb-true _ _ y.1);
-          unlinked = λ z. eqb-true _ _ (or_right _ _ idles.1 z);
-        },
-        ltb-true i largest (unless-none _ _ i f.1),
-      )
+  pub flaw-none : flaw_of i prev e ≡ None → Writable prev e × (i < largest)
+  unfolding flaw_of idle unless
+  flaw-none h = (
+    record {
+      kind = grind (arith, nat_tests);
+      home = grind (arith, nat_tests);
+      span = grind (arith, nat_tests);
+      range = grind (arith, nat_tests);
+      late = grind (arith, nat_tests);
+      homeless = λ z. (grind (arith, nat_tests), grind (arith, nat_tests));
+      unlinked = λ z. grind (arith, nat_tests);
+    },
+    grind (arith, nat_tests),
+  )
 
-  pub writable-none : Writable prev e → i < largest → flaw_of i prev e ≡ none
-  unfolding flaw_of idle
-  writable-none w l =
-      none-else _ _ (none-unless _ _ i w.kind)
-      (none-else _ _ (none-unless _ _ i w.home)
-      (none-else _ _ (none-unless _ _ i ((and-eq-true_iff _ _).1 (le-leb _ _ w.span, le-leb _ _ w.range)))
-      (none-else _ _ (none-unless _ _ i (le-leb _ _ w.late))
-      (none-else _ _ (none-unless _ _ i idles)
-      (none-unless _ _ i (lt-ltb i largest l))))))
-    where
-      idles : idle e ≡ true
-      idles =
-          (and-eq-true_iff _ _).1 (
-            or-either _ _ (λ z. (and-eq-true_iff _ _).1 (eq-eqb _ _ (w.homeless z).0, eq-eqb _ _ (w.homeless z).1)),
-            or-either _ _ (λ z. eq-eqb _ _ (w.unlinked z)),
-          )
+  pub writable-none : Writable prev e → i < largest → flaw_of i prev e ≡ None
+  unfolding flaw_of idle unless
+  writable-none w l = grind (arith, nat_tests)
 
 -- what is read, and then made something of
-pub on_then : {A B : Type 0} (f : A → Reads B) {g : Got A} {a : A} {m : ℕ} → g ≡ got a m → on f g ≡ f a m
+pub on_then : {A B : Type 0} (f : A → Reads B) {g : Got A} {a : A} {m : ℕ} → g ≡ Ok (a, m) → on f g ≡ f a m
 unfolding on
 on_then f e = ap (on f) e
 
-pub on-fault : {A B : Type 0} (f : A → Reads B) {g : Got A} {w : Fault} {p : ℕ} → g ≡ fault w p → on f g ≡ fault w p
+pub on-got : {A B : Type 0} (f : A → Reads B) (g : Got A) (b : B) (n : ℕ) → on f g ≡ Ok (b, n) → (a : A) × (m : ℕ) × (g ≡ Ok (a, m)) × (f a m ≡ Ok (b, n))
 unfolding on
-on-fault f e = ap (on f) e
-
-pub on-got : {A B : Type 0} (f : A → Reads B) (g : Got A) (b : B) (n : ℕ) → on f g ≡ got b n → (a : A) × (m : ℕ) × (g ≡ got a m) × (f a m ≡ got b n)
-unfolding on
-on-got f (got a m) b n e = (a, m, refl, e)
-on-got f (fault w p) b n e = let z : ◌≡◌ {A = ℕ} 0 1 = cc in absurd (omega arith)
+on-got f (Ok (a, m)) b n e = (a, m, refl, e)
+on-got f (Err w) b n e = cc
 
 -- a number that is asked about
 module _ (bytes : List ℕ) (at : ℕ) (ok : ℕ → Bool) (w : Fault) (f : ℕ → ℕ) where
   abbrev asked : Got ℕ
   asked = on (λ n. if_sound (ok n) w at (f n)) (a_number bytes at)
 
-  pub asked-got : (n m : ℕ) → a_number bytes at ≡ got n m → ok n ≡ true → asked ≡ got (f n) m
+  pub asked-got : (n m : ℕ) → a_number bytes at ≡ Ok (n, m) → ok n ≡ true → asked ≡ Ok (f n, m)
   unfolding if_sound
   asked-got n m e k = on_then _ e ∙ ap (λ (b : Bool). if_sound b w at (f n) m) k
 
-  pub asked-bad : (n m : ℕ) → a_number bytes at ≡ got n m → ok n ≡ false → asked ≡ fault w at
-  unfolding if_sound
-  asked-bad n m e k = on_then _ e ∙ ap (λ (b : Bool). if_sound b w at (f n) m) k
-
-  pub got-asked : (v m : ℕ) → asked ≡ got v m → (n : ℕ) × (a_number bytes at ≡ got n m) × (ok n ≡ true) × (f n ≡ v)
+  pub got-asked : (v m : ℕ) → asked ≡ Ok (v, m) → (n : ℕ) × (a_number bytes at ≡ Ok (n, m)) × (ok n ≡ true) × (f n ≡ v)
   unfolding if_sound
   got-asked v m e =
       let r = on-got (λ n. if_sound (ok n) w at (f n)) (a_number bytes at) v m e in
       by r.0 r.1 r.2 (ok r.0) refl r.3
     where
-      by : (n k : ℕ) → a_number bytes at ≡ got n k → (b : Bool) → ok n ≡ b → if_sound b w at (f n) k ≡ got v m
-          → (n : ℕ) × (a_number bytes at ≡ got n m) × (ok n ≡ true) × (f n ≡ v)
-      by n k a true b e = let same : k ≡ m = cc in (n, a ∙ ap (got n) same, b, cc)
-      by n k a false b e = let z : ◌≡◌ {A = ℕ} 0 1 = cc in absurd (omega arith)
+      by : (n k : ℕ) → a_number bytes at ≡ Ok (n, k) → (b : Bool) → ok n ≡ b → if_sound b w at (f n) k ≡ Ok (v, m)
+          → (n : ℕ) × (a_number bytes at ≡ Ok (n, m)) × (ok n ≡ true) × (f n ≡ v)
+      by n k a true b e = let same = same-got (f n) v k m e in (n, a ∙ ap (λ (k : ℕ). Ok (n, k)) same.1, b, same.0)
+      by n k a false b e = cc
 
 -- a number on top of another
 module _ (bytes : List ℕ) (base at : ℕ) where
-  pub sum-read : (v m : ℕ) → base ≤ v → v ≤ largest → a_number bytes at ≡ got (v - base) m → a_sum bytes base at ≡ got v m
+  pub sum-read : (v m : ℕ) → base ≤ v → v ≤ largest → a_number bytes at ≡ Ok (v - base, m) → a_sum bytes base at ≡ Ok (v, m)
   sum-read v m l h e =
       let whole : base + (v - base) ≡ v = omega arith in
-      asked-got bytes at (λ n. leb (base + n) largest) Beyond (λ n. base + n) (v - base) m e (le-leb (base + (v - base)) largest (omega arith)) ∙ ap (λ (k : ℕ). got k m) whole
+      asked-got bytes at (λ n. leb (base + n) largest) Beyond (λ n. base + n) (v - base) m e (le-leb (base + (v - base)) largest (omega arith)) ∙ ap (λ (k : ℕ). Ok (k, m)) whole
 
-  pub read-sum : (v m : ℕ) → a_sum bytes base at ≡ got v m → (a_number bytes at ≡ got (v - base) m) × (base ≤ v) × (v ≤ largest)
+  pub read-sum : (v m : ℕ) → a_sum bytes base at ≡ Ok (v, m) → (a_number bytes at ≡ Ok (v - base, m)) × (base ≤ v) × (v ≤ largest)
   read-sum v m e =
       let r = got-asked bytes at (λ n. leb (base + n) largest) Beyond (λ n. base + n) v m e in
       let part : r.0 ≡ v - base = omega (arith, r.3) in
-      (r.1 ∙ ap (λ (k : ℕ). got k m) part, omega (arith, r.3), omega (arith, r.3, leb-true (base + r.0) largest r.2))
+      (r.1 ∙ ap (λ (k : ℕ). Ok (k, m)) part, omega (arith, r.3), omega (arith, r.3, leb-true (base + r.0) largest r.2))
 
 module _ (bytes : List ℕ) (e : Event) where
   -- the numbers of home and link number
@@ -158,7 +106,7 @@ module _ (bytes : List ℕ) (e : Event) where
       (given (present e.home) (e.home_end.0 - e.home_start.0)
       (given (has_link e.kind) e.link.0 []))
 
-  home_read : (prev at to : ℕ) → Writable prev e → Narrow e → Stands bytes at (e.home ∷ behind) to → home_from bytes e.kind at ≡ got (home_of e) to
+  home_read : (prev at to : ℕ) → Writable prev e → Narrow e → Stands bytes at (e.home ∷ behind) to → home_from bytes e.kind at ≡ Ok (home_of e, to)
   unfolding Stands
   home_read prev at to w n s =
       let a = asked-got bytes at (may_have e.kind) WrongHome (λ n. n) e.home s.0 s.1 w.home in
@@ -166,9 +114,9 @@ module _ (bytes : List ℕ) (e : Event) where
       let c = given-read bytes b.0 (a_sum bytes e.home_start.0) (e.home_end.0 - e.home_start.0) e.home_end.0 _ to (present e.home) (λ z. (w.homeless z).1)
       (λ m q. sum-read bytes e.home_start.0 b.0 e.home_end.0 m w.range n.home q) b.2 in
       let d = given-read bytes c.0 (a_number bytes) e.link.0 e.link.0 [] to (has_link e.kind) w.unlinked (λ m q. q) c.2 in
-      on_then _ a ∙ on_then _ b.1 ∙ on_then _ c.1 ∙ on_then _ d.1 ∙ ap (got (home_of e)) d.2
+      on_then _ a ∙ on_then _ b.1 ∙ on_then _ c.1 ∙ on_then _ d.1 ∙ ap (λ (k : ℕ). Ok (home_of e, k)) d.2
 
-  pub numbers-read : (prev at to : ℕ) → Writable prev e → Narrow e → Stands bytes at (fields prev e) to → event_from bytes prev at ≡ got e to
+  pub numbers-read : (prev at to : ℕ) → Writable prev e → Narrow e → Stands bytes at (fields prev e) to → event_from bytes prev at ≡ Ok (e, to)
   unfolding Stands fields
   numbers-read prev at to w n s =
       let a = asked-got bytes at known UnknownKind (λ n. n) e.kind s.0 s.1 w.kind in
@@ -191,14 +139,14 @@ record HomeRead (bytes : List ℕ) (at kind : ℕ) (h : Home) (to : ℕ) : Type 
       (given (has_link kind) h.link.0 []))) to
 
 module _ (bytes : List ℕ) where
-  range-found : (b : Bool) (at from m to n : ℕ) → optional b (a_number bytes) at ≡ got from m → optional b (a_sum bytes from) m ≡ got to n → (from ≤ to) × (to ≤ largest)
+  range-found : (b : Bool) (at from m to n : ℕ) → optional b (a_number bytes) at ≡ Ok (from, m) → optional b (a_sum bytes from) m ≡ Ok (to, n) → (from ≤ to) × (to ≤ largest)
   unfolding optional
   range-found true at from m to n e f = let r = read-sum bytes from m to n f in (r.1, r.2)
-  range-found false at from m to n e f = let z : 0 ≡ from = cc in let y : 0 ≡ to = cc in (omega arith, omega arith)
+  range-found false at from m to n e f = grind (arith, nat_tests)
 
   -- of its four numbers, each read where the one before it ends
-  home-of : (at kind home a from b to c n d : ℕ) → a_home bytes kind at ≡ got home a → optional (present home) (a_number bytes) a ≡ got from b
-      → optional (present home) (a_sum bytes from) b ≡ got to c → optional (has_link kind) (a_number bytes) c ≡ got n d
+  home-of : (at kind home a from b to c n d : ℕ) → a_home bytes kind at ≡ Ok (home, a) → optional (present home) (a_number bytes) a ≡ Ok (from, b)
+      → optional (present home) (a_sum bytes from) b ≡ Ok (to, c) → optional (has_link kind) (a_number bytes) c ≡ Ok (n, d)
       → HomeRead bytes at kind (record { home = home; start = place from; end = place to; link = link n }) d
   unfolding Stands
   home-of at kind home a from b to c n d x y z w =
@@ -212,14 +160,14 @@ module _ (bytes : List ℕ) where
         unlinked = λ none. read_none (a_number bytes) c n d (has_link kind) none w;
         stands = (
           a,
-          k.1 ∙ ap (λ (m : ℕ). got m a) k.3,
+          k.1 ∙ ap (λ (m : ℕ). Ok (m, a)) k.3,
           read-given bytes a (a_number bytes) from from _ d (present home) b (λ e. e) y
               (read-given bytes b (a_sum bytes from) (to - from) to _ d (present home) c (λ e. (read-sum bytes from b to c e).0) z
               (read-given bytes c (a_number bytes) n n [] d (has_link kind) d (λ e. e) w refl)),
         );
       }
 
-  home_found : (at kind : ℕ) (h : Home) (to : ℕ) → home_from bytes kind at ≡ got h to → HomeRead bytes at kind h to
+  home_found : (at kind : ℕ) (h : Home) (to : ℕ) → home_from bytes kind at ≡ Ok (h, to) → HomeRead bytes at kind h to
   home_found at kind h to e =
       let a = on-got _ _ _ _ e in
       let b = on-got _ _ _ _ a.3 in
@@ -227,11 +175,10 @@ module _ (bytes : List ℕ) where
       let d = on-got _ _ _ _ c.3 in
       found-home at kind _ h _ to d.3 (home-of at kind a.0 a.1 b.0 b.1 c.0 c.1 d.0 d.1 a.2 b.2 c.2 d.2)
     where
-      found-home : (at kind : ℕ) (g h : Home) (m to : ℕ) → got g m ≡ got h to → HomeRead bytes at kind g m → HomeRead bytes at kind h to
+      found-home : (at kind : ℕ) (g h : Home) (m to : ℕ) → ◌≡◌ {A = Got Home} (Ok (g, m)) (Ok (h, to)) → HomeRead bytes at kind g m → HomeRead bytes at kind h to
       found-home at kind g h m to e r =
-          let same : g ≡ h = cc in
-          let there : m ≡ to = cc in
-          subst (λ (k : ℕ). HomeRead bytes at kind h k) there (subst (λ (x : Home). HomeRead bytes at kind x m) same r)
+          let same = same-got g h m to e in
+          subst (λ (k : ℕ). HomeRead bytes at kind h k) same.1 (subst (λ (x : Home). HomeRead bytes at kind x m) same.0 r)
 
 -- what is read of an event: it can be written, and its numbers stand there
 pub record Read (bytes : List ℕ) (prev at : ℕ) (e : Event) (to : ℕ) : Type 0 where
@@ -241,8 +188,8 @@ pub record Read (bytes : List ℕ) (prev at : ℕ) (e : Event) (to : ℕ) : Type
   pub stands : Stands bytes at (fields prev e) to
 
 module _ (bytes : List ℕ) (prev at : ℕ) where
-  event-of : (kind a start b end c : ℕ) (h : Home) (d : ℕ) → a_kind bytes at ≡ got kind a → a_sum bytes prev a ≡ got start b → a_sum bytes start b ≡ got end c
-      → home_from bytes kind c ≡ got h d → Read bytes prev at (homed kind h start end) d
+  event-of : (kind a start b end c : ℕ) (h : Home) (d : ℕ) → a_kind bytes at ≡ Ok (kind, a) → a_sum bytes prev a ≡ Ok (start, b) → a_sum bytes start b ≡ Ok (end, c)
+      → home_from bytes kind c ≡ Ok (h, d) → Read bytes prev at (homed kind h start end) d
   unfolding Stands fields
   event-of kind a start b end c h d x y z w =
       let k = got-asked bytes at known UnknownKind (λ n. n) kind a x in
@@ -261,10 +208,10 @@ module _ (bytes : List ℕ) (prev at : ℕ) where
         };
         end = t.2;
         home = r.narrow;
-        stands = (a, k.1 ∙ ap (λ (m : ℕ). got m a) k.3, (b, s.0, (c, t.0, r.stands)));
+        stands = (a, k.1 ∙ ap (λ (m : ℕ). Ok (m, a)) k.3, (b, s.0, (c, t.0, r.stands)));
       }
 
-  pub event-found : (e : Event) (to : ℕ) → event_from bytes prev at ≡ got e to → Read bytes prev at e to
+  pub event-found : (e : Event) (to : ℕ) → event_from bytes prev at ≡ Ok (e, to) → Read bytes prev at e to
   event-found e to h =
       let a = on-got _ _ _ _ h in
       let b = on-got _ _ _ _ a.3 in
@@ -272,31 +219,19 @@ module _ (bytes : List ℕ) (prev at : ℕ) where
       let d = on-got _ _ _ _ c.3 in
       as_read _ e _ to d.3 (event-of a.0 a.1 b.0 b.1 c.0 c.1 d.0 d.1 a.2 b.2 c.2 d.2)
     where
-      as_read : (g e : Event) (m to : ℕ) → got g m ≡ got e to → Read bytes prev at g m → Read bytes prev at e to
+      as_read : (g e : Event) (m to : ℕ) → ◌≡◌ {A = Got Event} (Ok (g, m)) (Ok (e, to)) → Read bytes prev at g m → Read bytes prev at e to
       as_read g e m to h r =
-          let same : g ≡ e = cc in
-          let there : m ≡ to = cc in
-          subst (λ (k : ℕ). Read bytes prev at e k) there (subst (λ (x : Event). Read bytes prev at x m) same r)
+          let same = same-got g e m to h in
+          subst (λ (k : ℕ). Read bytes prev at e k) same.1 (subst (λ (x : Event). Read bytes prev at x m) same.0 r)
 
 -- kinds and homes are low
 pub known-low : (kind : ℕ) → known kind ≡ true → kind ≤ 80
 unfolding known container_of
-known-low kind h = by (ltb kind 32) refl (ltb kind 64) refl
-  where
-    by : (a : Bool) → ltb kind 32 ≡ a → (b : Bool) → ltb kind 64 ≡ b → kind ≤ 80
-    by true x b y = omega (arith, ltb-true kind 32 x)
-    by false x true y = omega (arith, ltb-true kind 64 y)
-    by false x false y =
-        let r = rw (x, y, known, container_of) at h in
-        omega (arith, leb-true (kind - 64) 16 ((and-eq-true_iff (leb 1 (kind - 64)) (leb (kind - 64) 16)).0 r).1)
+known-low kind h = grind (arith, nat_tests)
 
 pub home-low : (kind home : ℕ) → may_have kind home ≡ true → home ≤ 2
 unfolding may_have
-home-low kind home h = by (eqb home 0) refl
-  where
-    by : (t : Bool) → eqb home 0 ≡ t → home ≤ 2
-    by true t = omega (arith, eqb-true home 0 t)
-    by false t = leb-true home 2 ((and-eq-true_iff (leb home 2) (has_home kind)).0 (or_right (eqb home 0) _ h t)).0
+home-low kind home h = grind (arith, nat_tests)
 
 -- numbers of 32 bits are small, and small numbers are of 32 bits
 given-small : (b : Bool) (n : ℕ) (ns : List ℕ) → n ≤ largest → Small ns → Small (given b n ns)
@@ -307,7 +242,7 @@ given-small false n ns h s = s
 small-given : (b : Bool) (n : ℕ) (ns : List ℕ) → Small (given b n ns) → (b ≡ true → n ≤ largest) × Small ns
 unfolding Small given
 small-given true n ns s = (λ e. s.0, s.1)
-small-given false n ns s = (λ e. let z : ◌≡◌ {A = ℕ} 0 1 = cc in absurd (omega arith), s)
+small-given false n ns s = (λ e. cc, s)
 
 pub fields-small : (prev : ℕ) (e : Event) → Writable prev e → Narrow e → Small (fields prev e)
 unfolding Small fields

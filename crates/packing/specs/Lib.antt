@@ -1,3 +1,4 @@
 pub mod Packed
+pub mod Told
 pub mod Unpacked
 pub mod Worked

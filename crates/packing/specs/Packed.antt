@@ -1,6 +1,8 @@
--- A packed list, as it is written (document 02, L4): "event count, then per event kind, start minus the previous end (0 before the first), length, home; if home is not
--- 0, home start and home length; for kinds 44 to 47 and 76 to 79, the link number". And what the writer refuses.
-use Rattle.std.specs.Prelude.{ℕ, suc, ◌-◌, List, [], ◌∷◌, ◌++◌, Bool, true, false, not, ◌&&◌, ◌||◌, leb, ltb, eqb, length}
+-- A packed list, as it is written (document 02, L4): "event count, then per event kind, start minus
+-- the previous end (0 before the first), length, home; if home is not 0, home start and home
+-- length; for kinds 44 to 47 and 76 to 79, the link number". And what the writer refuses.
+use Rattle.std.specs.Prelude.{ℕ, suc, ◌-◌, List, [], ◌∷◌, ◌++◌, Bool, true, false, not, ◌&&◌, ◌||◌, leb, ltb, eqb, length, Option, Some, None}
+use Rattle.std.specs.Option.{option_or}
 use Rattle.groups.specs.Groups.{spelled_all}
 use Rattle.reading.specs.declared.Event.{Event}
 use Rattle.reading.specs.Events.{home_none, home_labels}
@@ -39,19 +41,15 @@ fields_all prev (e ∷ es) = fields prev e ++ fields_all e.end.0 es
 abbrev pub packed : List Event → List ℕ
 packed es = spelled_all (length es ∷ fields_all 0 es)
 
--- what the writer refuses: "such a kind or home, a span or home end before its start, a start before the previous end, a field without meaning that is not 0, or
--- 4,294,967,295 events before it"
+-- what the writer refuses: "such a kind or home, a span or home end before its start, a start
+-- before the previous end, a field without meaning that is not 0, or 4,294,967,295 events before
+-- it"
 pub data Flaw : Type 0 where
   unknown_kind no_such_home backwards early meaning many : Flaw
 
--- an event has it, the first that has one; or none has
-pub data Flawed : Type 0 where
-  found : Flaw → ℕ → Flawed
-  none : Flawed
-
-unfoldable pub or_else : Flawed → Flawed → Flawed
-or_else (found f i) rest = found f i
-or_else none rest = rest
+-- the flaw of the first event that has one, and how many events are before it; or none has
+abbrev pub Flawed : Type 0
+Flawed = Option (Flaw × ℕ)
 
 -- a home that a kind may have: none; the text or the label room, if it is a kind with one
 unfoldable pub may_have : ℕ → ℕ → Bool
@@ -64,19 +62,19 @@ idle e =
 
 -- a flaw of the event with i others before it, unless something holds
 unfoldable pub unless : Bool → Flaw → ℕ → Flawed
-unless true f i = none
-unless false f i = found f i
+unless true f i = None
+unless false f i = Some (f, i)
 
 -- the event with i others before it, the last of which ends at prev
 unfoldable pub flaw_of : ℕ → ℕ → Event → Flawed
 flaw_of i prev e =
-    or_else (unless (known e.kind) unknown_kind i)
-    (or_else (unless (may_have e.kind e.home) no_such_home i)
-    (or_else (unless (leb e.start.0 e.end.0 && leb e.home_start.0 e.home_end.0) backwards i)
-    (or_else (unless (leb prev e.start.0) early i)
-    (or_else (unless (idle e) meaning i)
+    option_or (unless (known e.kind) unknown_kind i)
+    (option_or (unless (may_have e.kind e.home) no_such_home i)
+    (option_or (unless (leb e.start.0 e.end.0 && leb e.home_start.0 e.home_end.0) backwards i)
+    (option_or (unless (leb prev e.start.0) early i)
+    (option_or (unless (idle e) meaning i)
     (unless (ltb i largest) many i)))))
 
 unfoldable pub first_flaw : ℕ → ℕ → List Event → Flawed
-first_flaw i prev [] = none
-first_flaw i prev (e ∷ es) = or_else (flaw_of i prev e) (first_flaw (suc i) e.end.0 es)
+first_flaw i prev [] = None
+first_flaw i prev (e ∷ es) = option_or (flaw_of i prev e) (first_flaw (suc i) e.end.0 es)

@@ -1,50 +1,54 @@
--- A packed list, as it is read (document 02, L4): "The reader stops at the first fault". "cut short (place the length), longer than needed, too large (a fifth byte over
--- 15), a start or end beyond the largest, an unknown kind (32 and 64 among them), a home over 2 or on a kind without one, bytes left over; its place is else the first
--- byte of that number or rest".
-use Rattle.std.specs.Prelude.{ℕ, zero, suc, ◌+◌, List, [], ◌∷◌, Bool, true, false, leb, length}
-use Rattle.groups.specs.declared.Number.{Number}
-use Rattle.groups.specs.declared.Number.TheVariants as number
+-- A packed list, as it is read (document 02, L4): "The reader stops at the first fault". "cut short
+-- (place the length), longer than needed, too large (a fifth byte over 15), a start or end beyond
+-- the largest, an unknown kind (32 and 64 among them), a home over 2 or on a kind without one,
+-- bytes left over; its place is else the first byte of that number or rest".
+use Rattle.std.specs.Prelude.{ℕ, zero, suc, ◌+◌, List, [], ◌∷◌, Bool, true, false, leb, length, Result, Ok, Err}
+use Rattle.groups.specs.declared.NumberError.{NumberError}
+use Rattle.groups.specs.declared.NumberError.TheVariants as number
 use Rattle.groups.specs.Groups.{number_at}
 use Rattle.reading.specs.declared.Event.{Event}
 use Rattle.reading.specs.declared.Home.{Home}
 use Rattle.reading.specs.Events.{place, link, homed}
 use Rattle.reading.specs.Homes.{known, has_link}
 use Rattle.packing.specs.declared.Fault.{Fault}
+use Rattle.packing.specs.declared.FaultAt.{FaultAt}
 use Rattle.packing.specs.declared.Fault.TheVariants.{Cut, Longer, TooLarge, Beyond, UnknownKind, WrongHome, Rest}
 use Rattle.packing.specs.Packed.{largest, present, may_have}
 
 -- what is read from a place on: a value, and the place behind it; or a fault, and its place
-pub data Got (A : Type 0) : Type 0 where
-  got : A → ℕ → Got A
-  fault : Fault → ℕ → Got A
+abbrev pub Got : Type 0 → Type 0
+Got A = Result (A × ℕ) FaultAt
+
+abbrev pub fault : {A : Type 0} → Fault → ℕ → Got A
+fault w p = Err (record { fault = w; place = p })
 
 abbrev pub Reads : Type 0 → Type 0
 Reads A = ℕ → Got A
 
 -- one thing after another, up to the first fault
 unfoldable pub on : {A B : Type 0} → (A → Reads B) → Got A → Got B
-on f (got a next) = f a next
-on f (fault w p) = fault w p
+on f (Ok (a, next)) = f a next
+on f (Err e) = Err e
 
 abbrev pub ◌>>=◌ : {A B : Type 0} → Reads A → (A → Reads B) → Reads B
 ◌>>=◌ p f at = on f (p at)
 
 abbrev pub pure : {A : Type 0} → A → Reads A
-pure a next = got a next
+pure a next = Ok (a, next)
 
 -- a number
-unfoldable pub number_as : ℕ → ℕ → Number → Got ℕ
-number_as size at (number.Is n next) = got n next
-number_as size at number.Cut = fault Cut size
-number_as size at number.Longer = fault Longer at
-number_as size at number.TooLarge = fault TooLarge at
+unfoldable pub number_as : ℕ → ℕ → Result (ℕ × ℕ) NumberError → Got ℕ
+number_as size at (Ok n) = Ok n
+number_as size at (Err number.Cut) = fault Cut size
+number_as size at (Err number.Longer) = fault Longer at
+number_as size at (Err number.TooLarge) = fault TooLarge at
 
 abbrev pub a_number : List ℕ → Reads ℕ
 a_number bytes at = number_as (length bytes) at (number_at bytes at)
 
 -- a value, if it is as it should be; else a fault at a place
 unfoldable pub if_sound : {A : Type 0} → Bool → Fault → ℕ → A → Reads A
-if_sound true w p a next = got a next
+if_sound true w p a next = Ok (a, next)
 if_sound false w p a next = fault w p
 
 -- a number on top of another, at most the largest: a start, an end
@@ -60,7 +64,7 @@ a_home bytes kind at = on (λ n. if_sound (may_have kind n) WrongHome at n) (a_n
 -- a number that stands there, or 0
 unfoldable pub optional : Bool → Reads ℕ → Reads ℕ
 optional true p at = p at
-optional false p at = got 0 at
+optional false p at = Ok (0, at)
 
 -- home, its start and length if it is not none, and the link number if the kind has one
 abbrev pub with_link : List ℕ → ℕ → ℕ → ℕ → ℕ → Reads Home

@@ -45,7 +45,8 @@ worked =
     }
     -- `::` behind 300 bytes of no line: an empty range, and a start of two groups
     ∷ record { events = homed symbol (in_text 301 301) 300 302 ∷ []; bytes = 1 ∷ 13 ∷ 172 ∷ 2 ∷ 2 ∷ 1 ∷ 173 ∷ 2 ∷ 0 ∷ [] }
-    -- a kind with a home that has none; the largest start, link number 4,294,967,295; lists that no sheet gave
+    -- a kind with a home that has none; the largest start, link number 4,294,967,295; lists that no
+    -- sheet gave
     ∷ record { events = event symbol 0 0 ∷ []; bytes = 1 ∷ 13 ∷ 0 ∷ 0 ∷ 0 ∷ [] }
     ∷ record {
       events = event str 4294967295 4294967295 ∷ homed (exit inline_link) (linked 0 0 4294967295) 4294967295 4294967295 ∷ [];

@@ -1,16 +1,19 @@
 #![tactic(auto)]
-// What a packed list of events is made of: the faults of one, and which numbers an event of a kind has.
-ghost use Rattle.std.specs.Prelude.{◌≡◌, ◌≤◌};
+// What a packed list of events is made of: the faults of one, and which numbers an event of a kind
+// has. Kinds and homes are numbers, and no enums: C lends records of any numbers.
+ghost use Rattle.std.specs.Prelude.{◌≡◌, ◌≤◌, Some};
 ghost use Rattle.reading.specs.Homes.{container_of, known as known_of, has_home as has_home_of, has_link as has_link_of};
 ghost use Rattle.packing.specs.Packed.{may_have as may_have_of};
+ghost use Rattle.packing.specs.Told.{fault_text};
 
 use reading::{IN_LABELS, NO_HOME, container, kind};
+use std::fmt;
 
 // The largest number.
-pub const LARGEST: u32 = 4294967295;
+pub const LARGEST: u32 = u32::MAX;
 
 // What is wrong with a packed list.
-#[derive(Clone, Copy)]
+#[derive(Clone, Copy, Debug, PartialEq, Eq)]
 pub enum Fault {
     // It ends within a number.
     Cut,
@@ -27,7 +30,44 @@ pub enum Fault {
     Rest,
 }
 
+// What it is, in plain words.
+impl fmt::Display for Fault {
+    ghost output = { λ f. Some (fault_text f) };
+
+    fn fmt<W: fmt::Write>(&self, f: &mut fmt::Formatter<W>) -> fmt::Result {
+        match self {
+            Fault::Cut => f.write_str("the list ends there, within a number or before one"),
+            Fault::Longer => f.write_str("the number there has more bytes than it needs"),
+            Fault::TooLarge => f.write_str("the number there is over 4294967295"),
+            Fault::Beyond => f.write_str(
+                "the number there moves a start or an end beyond 4294967295",
+            ),
+            Fault::UnknownKind => f.write_str("the number there is no kind of an event"),
+            Fault::WrongHome => f.write_str(
+                "the number there is no home, or the event's kind has none",
+            ),
+            Fault::Rest => f.write_str("bytes are left over from there on"),
+        }
+    }
+}
+
+// A fault, and its place.
+#[derive(Clone, Copy, Debug, PartialEq, Eq)]
+pub struct FaultAt {
+    pub fault: Fault,
+    pub place: usize,
+}
+
+impl Fault {
+    pub fn at(self, place: usize) -> FaultAt
+        ensures { result ≡ record { fault = self; place = place } }
+    {
+        FaultAt { fault: self, place }
+    }
+}
+
 // The container of an enter or an exit.
+#[tactic(auto, using(std::proofs::lemmas::Bool::Decides::nat_tests), unfolding(reading::specs::Homes::container_of))]
 fn container(k: u32) -> u32
     requires { 32 ≤ k }
     ensures { result ≡ container_of k }
@@ -39,41 +79,46 @@ fn container(k: u32) -> u32
 }
 
 // A kind that is handed out.
+#[tactic(auto, using(std::proofs::lemmas::Bool::Decides::nat_tests), unfolding(reading::specs::Homes::known))]
 pub fn known(k: u32) -> bool
     ensures { result ≡ known_of k }
 {
     if k < kind::ENTER {
-        return (kind::STR <= k) & (k <= kind::FOOTNOTE_REFERENCE);
+        return matches!(k, kind::STR..=kind::FOOTNOTE_REFERENCE);
     }
-    let c = container(k);
-    (container::SUBSCRIPT <= c) & (c <= container::AUTOLINK)
+    matches!(container(k), container::SUBSCRIPT..=container::AUTOLINK)
 }
 
 // A kind with a home.
+#[tactic(auto, using(std::proofs::lemmas::Bool::Decides::nat_tests), unfolding(reading::specs::Homes::has_home))]
 pub fn has_home(k: u32) -> bool
     ensures { result ≡ has_home_of k }
 {
     if k < kind::ENTER {
-        return (kind::SYMBOL <= k) & (k <= kind::FOOTNOTE_REFERENCE);
+        return matches!(k, kind::SYMBOL..=kind::FOOTNOTE_REFERENCE);
     }
-    let c = container(k);
-    (c == container::RAW_FORMAT) | ((container::REFERENCE_LINK <= c) & (c <= container::AUTOLINK))
+    matches!(
+        container(k),
+        container::RAW_FORMAT | container::REFERENCE_LINK..=container::AUTOLINK
+    )
 }
 
 // A kind with a link number.
+#[tactic(auto, using(std::proofs::lemmas::Bool::Decides::nat_tests), unfolding(reading::specs::Homes::has_link))]
 pub fn has_link(k: u32) -> bool
     ensures { result ≡ has_link_of k }
 {
-    if k < kind::ENTER {
-        return false;
-    }
-    let c = container(k);
-    (container::REFERENCE_LINK <= c) & (c <= container::INLINE_IMAGE)
+    k >= kind::ENTER
+        && matches!(
+            container(k),
+            container::REFERENCE_LINK..=container::INLINE_IMAGE
+        )
 }
 
 // A home that a kind may have.
+#[tactic(auto, using(std::proofs::lemmas::Bool::Decides::nat_tests), unfolding(crate::specs::Packed::may_have))]
 pub fn may_have(k: u32, home: u32) -> bool
     ensures { result ≡ may_have_of k home }
 {
-    (home == NO_HOME) | ((home <= IN_LABELS) & has_home(k))
+    home == NO_HOME || (home <= IN_LABELS && has_home(k))
 }

@@ -1,104 +1,103 @@
 #![tactic(auto)]
 // The program behind `./fragment`: a sheet of its input is read, and its fragment is written, or
 // else why there is none.
-ghost use Rattle.std.specs.Prelude.{◌≡◌, ◌≤◌, length, take};
-ghost use Rattle.outcome.specs.Outcomes.{rooms_of};
-ghost use Rattle.verdict.specs.Fragments.{fragmented_of, fragmented};
+ghost use Rattle.std.specs.Prelude.{◌≤◌, length, OnOk, IfSome, Some};
+ghost use Rattle.std.specs.Io.KnownBytes.{Appends};
+ghost use Rattle.page.specs.Paged.{answer_text, page_within, page_text, paged};
+ghost use Rattle.page.specs.Refused.{refusal_text};
 
-use input::BYTES;
+use input::{BYTES, SheetRooms};
 use output::OUTPUT_ROOM;
-use reading::{EVENT_NUMBERS, Line, OPENER_NUMBERS, QUEUE_NUMBERS};
-use std::io;
+use reading::Line;
 use std::io::{Read, Write};
+use std::{fmt, io};
 use verdict::{FragmentAnswer, LINKED};
 
-// The program's rooms. So much output room always suffices.
-const EVENT_ROOM: usize = (BYTES + 1) * EVENT_NUMBERS;
-
-const QUEUE_ROOM: usize = (2 * BYTES + 1) * QUEUE_NUMBERS;
-
-const OPENER_ROOM: usize = BYTES * OPENER_NUMBERS;
-
-const LABEL_ROOM: usize = 65536;
-
+// So much output room always suffices.
 const FRAGMENT_ROOM: usize = 5 * BYTES + 29 * (BYTES + 1);
 
-// What a refusal says, in plain words.
-fn say<W: Write>(to: &mut W, code: u32) -> io::Result<()> {
-    if code == LINKED {
-        to.write_all(b"a link, an image, an autolink or a footnote reference begins there, ")?;
-        to.write_all(b"and a fragment has none of them\n")
-    } else if code == OUTPUT_ROOM {
-        to.write_all(b"the fragment is longer than the output room\n")
-    } else {
-        printing::say_reader(to, code)
+// A refusal by its number, which says in plain words what it means.
+#[derive(Clone, Copy)]
+struct Refusal(u32);
+
+impl fmt::Display for Refusal {
+    ghost output = { λ r. Some (refusal_text r.0) };
+
+    fn fmt<W: fmt::Write>(&self, f: &mut fmt::Formatter<W>) -> fmt::Result {
+        match self.0 {
+            LINKED => f.write_str(
+                "a link, an image, an autolink or a footnote reference begins there, \
+                 and a fragment has none of them",
+            ),
+            OUTPUT_ROOM => f.write_str("the fragment is longer than the output room"),
+            code => printing::Refusal(code).fmt(f),
+        }
     }
 }
 
-// Code and place, and what they mean.
-fn say_refused<W: Write>(to: &mut W, code: u32, place: u32) -> io::Result<()> {
-    printing::say_place(to, code, place as u64)?;
-    say(to, code)
-}
-
-// The fragment of the first n lines of a room, in reading 0.
-fn write_lines(
-    text: &[u8],
-    lines: [Line; BYTES],
-    n: usize,
-    events: &mut [u32],
-    queue: &mut [u32],
-    openers: &mut [u32],
-    labels: &mut [u8],
-    out: &mut [u8],
-) -> FragmentAnswer
-    requires { n ≤ 1000 }
-    ensures { fragmented_of result (rooms_of events.new queue.new openers.new labels.new) out.new
-        ≡ fragmented text.now (take n lines) 0
-        (rooms_of events.old queue.old openers.old labels.old) out.old }
+// What is answered: the fragment from the front of the output room, or why there is none.
+fn write_answer<W: Write, E: Write>(
+    to: &mut W,
+    errors: &mut E,
+    answer: FragmentAnswer,
+    out: &[u8],
+) -> io::Result<()>
+    ensures out { OnOk result (Appends (W.contents to.old) (W.contents to.new)
+        (answer_text answer out.now).out) }
+    ensures errors { OnOk result (Appends (E.contents errors.old) (E.contents errors.new)
+        (answer_text answer out.now).errors) }
 {
-    fragment::write(text, &lines[..n], 0, events, queue, openers, labels, out)
+    if answer.code == 0 {
+        to.write_all(printing::front(out, answer.length as usize))
+    } else {
+        printing::write_refused(
+            errors,
+            answer.code,
+            answer.place as u64,
+            &Refusal(answer.code),
+        )
+    }
 }
 
-// The fragment of the lines of a text, in the rooms of the program.
-fn page_lines<W: Write, E: Write>(
+// The fragment of a sheet, in reading 0, by way of an output room.
+fn write_page<W: Write, E: Write>(
     to: &mut W,
     errors: &mut E,
     text: &[u8],
-    lines: [Line; BYTES],
-    n: usize,
+    out: &mut [u8],
 ) -> io::Result<()>
-    requires { n ≤ 1000 }
+    requires { length text.now ≤ 1000 }
+    ensures out { OnOk result (Appends (W.contents to.old) (W.contents to.new)
+        (page_within text.now out.old).out) }
+    ensures errors { OnOk result (Appends (E.contents errors.old) (E.contents errors.new)
+        (page_within text.now out.old).errors) }
 {
-    let mut events = [0u32; EVENT_ROOM];
-    let mut queue = [0u32; QUEUE_ROOM];
-    let mut openers = [0u32; OPENER_ROOM];
-    let mut labels = [0u8; LABEL_ROOM];
-    let mut out = [0u8; FRAGMENT_ROOM];
-    let answer = write_lines(
+    let mut room = [Line { start: 0, end: 0 }; BYTES];
+    let lines = input::split_lines(text, &mut room);
+    let mut rooms = SheetRooms::new();
+    let answer = fragment::write(
         text,
         lines,
-        n,
-        &mut events,
-        &mut queue,
-        &mut openers,
-        &mut labels,
-        &mut out,
+        0,
+        &mut rooms.events,
+        &mut rooms.queue,
+        &mut rooms.openers,
+        &mut rooms.labels,
+        out,
     );
-    if answer.code != 0 {
-        say_refused(errors, answer.code, answer.place)
-    } else {
-        printing::write_bytes(to, &out, answer.length as usize)
-    }
+    write_answer(to, errors, answer, out)
 }
 
+#[tactic(auto, unfolding(crate::specs::Paged::page_text))]
 fn page<W: Write, E: Write>(to: &mut W, errors: &mut E, text: &[u8]) -> io::Result<()>
     requires { length text.now ≤ 1000 }
+    ensures out { OnOk result (Appends (W.contents to.old) (W.contents to.new)
+        (page_text text.now).out) }
+    ensures errors { OnOk result (Appends (E.contents errors.old) (E.contents errors.new)
+        (page_text text.now).errors) }
 {
-    let split = input::split_lines(text);
-    let lines = split.lines;
-    let n = split.count;
-    page_lines(to, errors, text, lines, n)
+    let mut out = [0; FRAGMENT_ROOM];
+    write_page(to, errors, text, &mut out)
 }
 
 // At most 1,000 bytes of input are a sheet.
@@ -106,12 +105,15 @@ pub fn page_input<R: Read, W: Write, E: Write>(
     from: &mut R,
     to: &mut W,
     errors: &mut E,
-) -> io::Result<()> {
-    let mut text = [0u8; BYTES + 1];
-    let n = input::read_full(from, &mut text)?;
-    if BYTES < n {
-        errors.write_all(b"input over 1000 bytes\n")
-    } else {
-        page(to, errors, &text[..n])
+) -> io::Result<()>
+    ensures out { IfSome (R.remaining from.old) (λ input. OnOk result
+        (Appends (W.contents to.old) (W.contents to.new) (paged input).out)) }
+    ensures errors { IfSome (R.remaining from.old) (λ input. OnOk result
+        (Appends (E.contents errors.old) (E.contents errors.new) (paged input).errors)) }
+{
+    let mut room = [0; BYTES + 1];
+    match input::read_short(from, &mut room)? {
+        Some(text) => page(to, errors, text),
+        None => printing::write_over(errors, BYTES),
     }
 }

@@ -1,56 +1,78 @@
 #![tactic(auto)]
-// What the programs print: bytes, numbers and events, a line each, and why a sheet is refused, in
-// plain words.
-ghost use Rattle.std.specs.Prelude.{◌≡◌, min};
+// What the programs print: numbers and events, a line each, and why a sheet is refused, in plain
+// words.
+ghost use Rattle.std.specs.Prelude.{◌≡◌, take, OnOk, IfSome, Some};
+ghost use Rattle.std.specs.Io.KnownBytes.{Appends};
+ghost use Rattle.printing.specs.Printed.{numbers_line, events_text, reader_refusal, refused_line, over_line};
 
 use reading::{EVENT_NUMBERS, code};
-use std::io;
 use std::io::Write;
+use std::{fmt, io};
 
 // Numbers on one line.
-pub fn write_line<W: Write>(to: &mut W, numbers: &[u32]) -> io::Result<()> {
+pub fn write_line<W: Write>(to: &mut W, numbers: &[u32]) -> io::Result<()>
+    ensures { OnOk result (Appends (W.contents to.old) (W.contents to.new)
+        (numbers_line numbers.now)) }
+{
     for (i, number) in numbers.iter().enumerate() {
-        if 0 < i {
-            to.write_all(b" ")?;
-        }
-        write!(to, "{number}")?;
+        let blank = if 0 < i { " " } else { "" };
+        write!(to, "{blank}{number}")?;
     }
     to.write_all(b"\n")
 }
 
-// How many of the counted ones a room of so many holds.
-fn held(count: usize, room: usize) -> usize
-    ensures { result ≡ min count room }
+// So much from the front of a room, and never more than there is.
+pub fn front<T>(room: &[T], count: usize) -> &[T]
+    ensures { result.now ≡ take count room.now }
 {
-    if count < room { count } else { room }
+    &room[..count.min(room.len())]
 }
 
-// Bytes from the front of their room.
-pub fn write_bytes<W: Write>(to: &mut W, bytes: &[u8], count: usize) -> io::Result<()> {
-    let n = held(count, bytes.len());
-    to.write_all(&bytes[..n])
-}
-
-// Events from the front of their room.
-pub fn write_events<W: Write>(to: &mut W, events: &[u32], count: usize) -> io::Result<()> {
-    for event in events.chunks_exact(EVENT_NUMBERS).take(count) {
+// Events, the numbers of each on a line.
+pub fn write_events<W: Write>(to: &mut W, events: &[u32]) -> io::Result<()>
+    ensures { OnOk result (Appends (W.contents to.old) (W.contents to.new)
+        (events_text events.now)) }
+{
+    for event in events.chunks_exact(EVENT_NUMBERS) {
         write_line(to, event)?;
     }
     Ok(())
 }
 
-// Code and place of a refusal, where it says what it means.
-pub fn say_place<W: Write>(to: &mut W, code: u32, place: u64) -> io::Result<()> {
-    write!(to, "refused {code} at {place}: ")
+// A refusal of the reader by its number, which says in plain words what it means.
+#[derive(Clone, Copy)]
+pub struct Refusal(pub u32);
+
+impl fmt::Display for Refusal {
+    ghost output = { λ r. Some (reader_refusal r.0) };
+
+    fn fmt<W: fmt::Write>(&self, f: &mut fmt::Formatter<W>) -> fmt::Result {
+        match self.0 {
+            code::BRACE => f.write_str("an attribute block stands there outside verbatim"),
+            code::LABEL_ROOM => {
+                f.write_str("the labels of its links are longer than the label room")
+            }
+            _ => f.write_str("its lines or the program's rooms are not those of a sheet"),
+        }
+    }
 }
 
-// What a refusal of the reader means.
-pub fn say_reader<W: Write>(to: &mut W, code: u32) -> io::Result<()> {
-    if code == code::BRACE {
-        to.write_all(b"an attribute block stands there outside verbatim\n")
-    } else if code == code::LABEL_ROOM {
-        to.write_all(b"the labels of its links are longer than the label room\n")
-    } else {
-        to.write_all(b"its lines or the program's rooms are not those of a sheet\n")
-    }
+// Code and place of a refusal, and what it means.
+pub fn write_refused<W: Write, D: fmt::Display>(
+    to: &mut W,
+    code: u32,
+    place: u64,
+    meaning: &D,
+) -> io::Result<()>
+    ensures { OnOk result (IfSome (D.output meaning.now)
+        (λ text. Appends (W.contents to.old) (W.contents to.new) (refused_line code place text))) }
+{
+    writeln!(to, "refused {code} at {place}: {meaning}")
+}
+
+// That an input is over a limit.
+pub fn write_over<W: Write>(to: &mut W, limit: usize) -> io::Result<()>
+    ensures { OnOk result (Appends (W.contents to.old) (W.contents to.new) (over_line limit)) }
+{
+    writeln!(to, "input over {limit} bytes")
 }

@@ -1,3 +1,3 @@
--- The laws of the questions: each test, and the walk over the lines.
+-- The laws of the questions: their chain, and the walk over the lines.
 pub mod Asking
 pub mod Walking

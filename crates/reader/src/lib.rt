@@ -1,132 +1,59 @@
 #![tactic(auto)]
 // The reader: a sheet is asked, read into lent rooms and judged.
-ghost use Rattle.std.specs.Prelude.{◌≡◌, ◌+◌, ◌/◌, ◌^◌, ◌≤◌, ◌<◌, length, take};
-ghost use Rattle.reading.specs.Events.{event_numbers};
+ghost use Rattle.std.specs.Prelude.{◌≡◌, ◌+◌, ◌*◌, ◌/◌, ◌^◌, ◌≤◌, ◌<◌, length, OnOk};
+ghost use Rattle.reading.specs.Events.{event_numbers, queue_numbers};
 ghost use Rattle.reading.specs.Draining.{drain};
 ghost use Rattle.reading.specs.Reading.{sheet, read as read_of};
-ghost use Rattle.reading.specs.Questions.{total, counting, label_room, handed_out, judged, outcome};
+ghost use Rattle.reading.specs.Questions.{total, label_room, judged, outcome};
 ghost use Rattle.reading.specs.Walked.{Accepted, AcceptedHomes};
 ghost use Rattle.rooms.specs.Records.{events as events_of};
 ghost use Rattle.rooms.specs.Standing.{stands};
 ghost use Rattle.inline.specs.Lines.{lines_of};
 ghost use Rattle.inline.specs.Asks.{StandsFor};
+ghost use Rattle.drain.specs.Handing.{handed};
 ghost use Rattle.outcome.specs.Outcomes.{rooms_of, outcome_of};
 ghost use Rattle.questions.specs.Asking.{Passed};
-ghost use Rattle.reader.specs.Judging.{drained_as, Counted, brace_of, code_of, Parsed};
+ghost use Rattle.reader.specs.Judging.{asked_last, Parsed};
 
-use drain::Drained;
-use questions::Asked;
-use reading::{Answer, LABEL_LIMIT, Refused, code};
-use rooms::Parser;
-
-// Whether an attribute block stands outside verbatim, and where the first does.
-#[derive(Clone, Copy)]
-struct Brace {
-    met: bool,
-    at: u32,
-}
-
-// The bytes of a label room that count.
-pub fn counted(labels: usize) -> usize
-    ensures { result ≡ counting labels }
-{
-    if LABEL_LIMIT < labels {
-        return LABEL_LIMIT;
-    }
-    labels
-}
+use reading::{Answer, LABEL_LIMIT, Refusal};
+use rooms::Status;
+use sheets::{Lines, Pairs};
 
 // The lines, with the label room that counts.
-fn parse_lines(
+fn parse_lines<L: Lines>(
     text: &[u8],
-    starts: &[usize],
-    ends: &[usize],
+    lines: L,
     reading: u32,
     queue: &mut [u32],
     openers: &mut [u32],
     labels: &mut [u8],
-) -> Parser
-    requires { Passed text.now (lines_of starts.now ends.now) queue.old openers.old }
-    ensures stands_for { StandsFor result queue.new openers.new labels.new (read_of (sheet text.now (lines_of starts.now ends.now) reading (label_room labels.old)) (lines_of starts.now ends.now)) }
+) -> Status
+    requires { Passed text.now (L.listed lines) queue.old openers.old }
+    ensures stands_for { StandsFor result queue.new openers.new labels.new (read_of (sheet text.now (L.listed lines) reading (label_room labels.old)) (L.listed lines)) }
     ensures labels_bound { result.labels < 2 ^ 32 }
 {
-    let room = counted(labels.len());
-    inline::parse(
-        text,
-        starts,
-        ends,
-        reading,
-        queue,
-        openers,
-        &mut labels[..room],
-    )
+    let room = labels.len().min(LABEL_LIMIT);
+    sheets::parse(text, lines, reading, queue, openers, &mut labels[..room])
 }
 
-// What comes of the events handed out.
-fn conclude(
-    drained: Drained,
-    bytes: usize,
-    events: &mut [u32],
-    queue: &mut [u32],
-    openers: &mut [u32],
-    labels: &mut [u8],
-) -> Answer
-    requires { Counted drained bytes events.old labels.old }
-    ensures { outcome_of result events.new queue.new openers.new labels.new ≡ drained_as drained bytes (rooms_of events.old queue.old openers.old labels.old) }
+// 7: does no attribute block stand outside verbatim? 8: does the label room hold all the labels built? 9: does the event room hold all the events?
+// Then these are handed out, so many.
+#[tactic(auto, unfolding(drain::specs::Handing::answered))]
+fn hand_out(p: Status, events: &mut [u32], queue: &[u32]) -> Result<usize, Refusal>
+    requires { p.events * queue_numbers ≤ length queue.now }
+    ensures value { result ≡ asked_last p.refused p.fits (drain (events_of p.events queue.now)) (length events.old / event_numbers) }
+    ensures events_after { OnOk result (events.new ≡ handed (drain (events_of p.events queue.now)) events.old) }
 {
-    match drained {
-        Drained::All(count) => outcome::accept(count, bytes, events, queue, openers, labels),
-        Drained::Full => outcome::refuse(code::EVENT_ROOM, 0, events, queue, openers, labels),
+    match p.refused {
+        Some(at) => Err(Refusal::Brace(at)),
+        None if p.fits => drain::drain(queue, p.events, events).ok_or(Refusal::EventRoom),
+        None => Err(Refusal::LabelRoom),
     }
-}
-
-// 9: does the event room hold all the events?
-fn hand_out(
-    p: Parser,
-    events: &mut [u32],
-    queue: &mut [u32],
-    openers: &mut [u32],
-    labels: &mut [u8],
-) -> Answer
-    requires refused_value { p.refused ≡ Refused.No }
-    requires parsed { Parsed p queue.old labels.old }
-    ensures { outcome_of result events.new queue.new openers.new labels.new ≡ handed_out (drain (events_of p.events queue.old)) (take p.labels labels.old) (rooms_of events.old queue.old openers.old labels.old) }
-{
-    let n = p.events;
-    let bytes = p.labels;
-    let drained = drain::drain(queue, n, events);
-    conclude(drained, bytes, events, queue, openers, labels)
-}
-
-// The first attribute block outside verbatim, as numbers.
-fn brace_of(refused: Refused) -> Brace
-    ensures { result ≡ brace_of refused }
-{
-    match refused {
-        Refused::At(at) => Brace {
-            met: true,
-            at: at.0,
-        },
-        Refused::No => Brace { met: false, at: 0 },
-    }
-}
-
-// 7: does no attribute block stand outside verbatim? 8: does the label room hold all the labels built?
-fn last_code(brace: bool, fits: bool) -> u32
-    ensures { result ≡ code_of brace fits }
-{
-    if brace {
-        return code::BRACE;
-    }
-    if fits {
-        return 0;
-    }
-    code::LABEL_ROOM
 }
 
 // 7 to 9, of what was read.
-pub fn judge(
-    p: Parser,
+fn judge(
+    p: Status,
     events: &mut [u32],
     queue: &mut [u32],
     openers: &mut [u32],
@@ -136,16 +63,41 @@ pub fn judge(
     ensures { outcome_of result events.new queue.new openers.new labels.new ≡ judged p.refused p.fits
         (stands p queue.old openers.old labels.old) (rooms_of events.old queue.old openers.old labels.old) }
 {
-    let refused = p.refused;
-    let brace = brace_of(refused);
-    let code = last_code(brace.met, p.fits);
-    if code != 0 {
-        return outcome::refuse(code, brace.at, events, queue, openers, labels);
+    match hand_out(p, events, queue) {
+        Ok(count) => outcome::accept(count, p.labels, events, queue, openers, labels),
+        Err(r) => {
+            outcome::clear_all(events, queue, openers, labels);
+            r.into()
+        }
     }
-    hand_out(p, events, queue, openers, labels)
 }
 
 // Reads a sheet: the lines of a text, each from its start to before its end, into the event room and the label room.
+pub fn read_lines<L: Lines>(
+    text: &[u8],
+    lines: L,
+    reading: u32,
+    events: &mut [u32],
+    queue: &mut [u32],
+    openers: &mut [u32],
+    labels: &mut [u8],
+) -> Answer
+    ensures as_defined { outcome_of result events.new queue.new openers.new labels.new ≡ outcome text.now
+        (L.listed lines) reading (rooms_of events.old queue.old openers.old labels.old) }
+    ensures accepted { result.code ≡ 0 → Accepted text.now (L.listed lines) reading (rooms_of events.old queue.old openers.old labels.old) (outcome_of result events.new queue.new openers.new labels.new) }
+    ensures homed { result.code ≡ 0 → AcceptedHomes text.now (L.listed lines) reading (rooms_of events.old queue.old openers.old labels.old) (outcome_of result events.new queue.new openers.new labels.new) }
+    ensures events_suffice { total (L.listed lines) + 1 ≤ length events.old / event_numbers → result.code ≡ 9 → ⊥ }
+{
+    match questions::questions(text, lines, reading, queue.len(), openers.len()) {
+        Err(r) => r.into(),
+        Ok(()) => {
+            let p = parse_lines(text, lines, reading, queue, openers, labels);
+            judge(p, events, queue, openers, labels)
+        }
+    }
+}
+
+// `read_lines` of lines on two slices of numbers.
 pub fn read(
     text: &[u8],
     starts: &[usize],
@@ -162,12 +114,13 @@ pub fn read(
     ensures homed { result.code ≡ 0 → AcceptedHomes text.now (lines_of starts.now ends.now) reading (rooms_of events.old queue.old openers.old labels.old) (outcome_of result events.new queue.new openers.new labels.new) }
     ensures events_suffice { total (lines_of starts.now ends.now) + 1 ≤ length events.old / event_numbers → result.code ≡ 9 → ⊥ }
 {
-    let asked = questions::questions(text, starts, ends, reading, queue.len(), openers.len());
-    match asked {
-        Asked::Refused(answer) => answer,
-        Asked::Fed => {
-            let p = parse_lines(text, starts, ends, reading, queue, openers, labels);
-            judge(p, events, queue, openers, labels)
-        }
-    }
+    read_lines(
+        text,
+        Pairs { starts, ends },
+        reading,
+        events,
+        queue,
+        openers,
+        labels,
+    )
 }

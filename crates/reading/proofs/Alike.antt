@@ -1,4 +1,7 @@
 -- The size of the label room changes nothing, as long as the labels fit: two readings of a sheet in which all did give the same, and drop the same.
+use Rattle.std.specs.Prelude.{None, Option, Some}
+use Rattle.reading.specs.declared.Place.{Place}
+use Rattle.reading.specs.declared.Verbatim.{Verbatim}
 use Prim.Native.Nat.{ℕ, zero, suc, ◌+◌}
 use mathlib.Core.Path.{◌≡◌, refl, sym, ap, ◌∙◌}
 use mathlib.Core.List.{List, [], ◌∷◌, ◌++◌}
@@ -6,16 +9,10 @@ use mathlib.Core.Bool.{Bool, true, false}
 use lib.Dec.{leb}
 use lib.ListN.{length}
 use Rattle.lex.specs.declared.lex.Token.{Token}
-use Rattle.lex.specs.declared.lex.Next.{Next}
-use Rattle.lex.specs.declared.lex.Next.TheVariants as next
 use Rattle.lex.specs.declared.lex.Cursor.{Cursor}
 use Rattle.lex.specs.Lexer.{peek_of}
 use Rattle.reading.specs.declared.Line.{Line}
 use Rattle.reading.specs.declared.Link.{Link}
-use Rattle.reading.specs.declared.Inside.{Inside}
-use Rattle.reading.specs.declared.Inside.TheVariants as inside
-use Rattle.reading.specs.declared.Refused.{Refused}
-use Rattle.reading.specs.declared.Refused.TheVariants as refused
 use Rattle.reading.specs.Walked.{events}
 use Rattle.reading.specs.Draining.{drain}
 use Rattle.reading.specs.Machine.{rules_of, View, Rules, Sheet, State, Turn, Here, with_openers}
@@ -55,10 +52,10 @@ label-home-alike m n k labels false (built bs) = λ e f. (e, refl)
 label-home-alike m n k labels true (built bs) =
     chosen (λ (z : Labelled). z.fits) _ _ refl (leb (length labels + length bs) m) (leb (length labels + length bs) n)
 
-ended-fits : (b : ℕ) (w : Inside) (s : State) → (ended_at b w s).fits ≡ s.fits
+ended-fits : (b : ℕ) (w : Option Verbatim) (s : State) → (ended_at b w s).fits ≡ s.fits
 unfolding ended_at
-ended-fits b inside.No s = refl
-ended-fits b (inside.Verbatim w) s = refl
+ended-fits b None s = refl
+ended-fits b (Some w) s = refl
 
 -- turns behind a state
 abbrev Turned : State → Turn → Turn → Type 0
@@ -75,11 +72,11 @@ Run = Turn × List Line × Content
 abbrev Ran : State → Run → Run → Type 0
 Ran s = Alike (λ (r : Run). r.0.state.fits) s.fits
 
-either-ran : (a : Turn) (c : Content) (r : Refused) (p q : Run) → Ran a.state p q
+either-ran : (a : Turn) (c : Content) (r : Option Place) (p q : Run) → Ran a.state p q
     → Ran a.state (unless r a p.0, unless r [] p.1, unless r c p.2) (unless r a q.0, unless r [] q.1, unless r c q.2)
 unfolding unless
-either-ran a c (refused.At at) p q k = λ e f. (e, refl)
-either-ran a c refused.No p q k = k
+either-ran a c (Some at) p q k = λ e f. (e, refl)
+either-ran a c None p q k = k
 
 -- all lines: the state behind them, and what they drop
 abbrev Lines : Type 0
@@ -97,20 +94,20 @@ module _ (rules : Rules) (text : List ℕ) (block : ℕ → Bool) where
     abbrev y : Sheet
     y = with-room n
 
-    by_alike : (s : State) (h : Here) (t : Token) (w : Inside) → Turned s (by_place x v h t w s) (by_place y v h t w s)
+    by_alike : (s : State) (h : Here) (t : Token) (w : Option Verbatim) → Turned s (by_place x v h t w s) (by_place y v h t w s)
     unfolding by_place close_as
-    by_alike s h t inside.No =
+    by_alike s h t None =
         ruled x y v s (Turned s) (λ a k. same s a (ap (λ z. z.3) k))
         (λ h o t os e f.
         let u = label-home-alike m n s.links s.labels s.fits _ e f in
         (u.0, ap (λ (l : Labelled). record { cursor = (peek_of v.bytes h.cursor).cursor; state = closes_link t.container l v h o (with_openers os s) }) u.1))
         (λ h e f. (e, refl)) (λ p. refl) (λ h e f. (e, refl)) h (role_of t.kind)
-    by_alike s h t (inside.Verbatim w) = same s _ (ap (λ z. z.2) (in_kept v h s rules t w))
+    by_alike s h t (Some w) = same s _ (ap (λ z. z.2) (in_kept v h s rules t w))
 
-    on_alike : (a : Turn) (t : Next) (c : Cursor) → Turned a.state (on_token x v a t c) (on_token y v a t c)
+    on_alike : (a : Turn) (t : Option Token) (c : Cursor) → Turned a.state (on_token x v a t c) (on_token y v a t c)
     unfolding on_token
-    on_alike a next.None c = λ e f. (e, refl)
-    on_alike a (next.Some t) c = by_alike a.state (here_at a.cursor t c) t a.state.inside
+    on_alike a None c = λ e f. (e, refl)
+    on_alike a (Some t) c = by_alike a.state (here_at a.cursor t c) t a.state.inside
 
   abbrev run : ℕ → View → Content → ℕ → Turn → Run
   run k v c m a = (steps k (with-room m) v a, steps_drop k (with-room m) v a c, steps_content k (with-room m) v a c)

@@ -1,4 +1,6 @@
 -- The answer: whoever lends N + 1 event records is never refused for event room, and demand 3 holds of every accepted sheet, and its events have their homes.
+use Rattle.std.specs.Prelude.{None, Option, Some}
+use Rattle.reading.specs.declared.Place.{Place}
 use Prim.Native.Nat.{ℕ, ◌+◌, ◌*◌, ◌/◌, ◌≤◌}
 use mathlib.Core.Path.{◌≡◌, refl}
 use mathlib.Core.List.{List, [], ◌∷◌}
@@ -8,8 +10,6 @@ use borrow.Author.Tests.{leb-true, le-leb}
 use lib.Dec.{leb, ltb}
 use lib.ListN.{length}
 use Rattle.reading.specs.declared.Line.{Line}
-use Rattle.reading.specs.declared.Refused.{Refused}
-use Rattle.reading.specs.declared.Refused.TheVariants as refused
 use Rattle.reading.specs.Machine.{Sheet, State}
 use Rattle.reading.specs.Blocks.{block_at}
 use Rattle.reading.specs.Reading.{views, sheet_with, sheet, read}
@@ -59,11 +59,11 @@ module _ (text : List ℕ) (ls : List Line) (reading : ℕ) (rooms : Rooms) wher
 
   -- 7 and 8 are refusals too; behind them the list is handed out
   judges : (P : Outcome → Type 0) → ((code at : ℕ) → 1 ≤ code → code ≤ 8 → P (refuses code at (cleared rooms)))
-      → (r : Refused) (f : Bool) (s : State) → (r ≡ refused.No → f ≡ true → P (handed_out (drain s.queue) s.labels rooms)) → P (judged r f s rooms)
+      → (r : Option Place) (f : Bool) (s : State) → (r ≡ None → f ≡ true → P (handed_out (drain s.queue) s.labels rooms)) → P (judged r f s rooms)
   unfolding judged
-  judges P early (refused.At p) f s late = early 7 p.0 (omega arith) (omega arith)
-  judges P early refused.No false s late = early 8 0 (omega arith) (omega arith)
-  judges P early refused.No true s late = late refl refl
+  judges P early (Some p) f s late = early 7 p.0 (omega arith) (omega arith)
+  judges P early None false s late = early 8 0 (omega arith) (omega arith)
+  judges P early None true s late = late refl refl
 
   -- whoever lends N + 1 event records is never refused for event room
   pub never-nine : total ls + 1 ≤ length rooms.events / event_numbers → (outcome text ls reading rooms).answer.code ≡ 9 → ⊥
@@ -89,7 +89,7 @@ module _ (text : List ℕ) (ls : List Line) (reading : ℕ) (rooms : Rooms) wher
       Claim : Outcome → Type 0
       Claim o = o.answer.code ≡ 0 → Accepted text ls reading rooms o
 
-      go : (read x ls).refused ≡ refused.No → (read x ls).fits ≡ true → Fed text ls → (b : Bool) → leb (length (drain (read x ls).queue)) (length rooms.events / event_numbers) ≡ b
+      go : (read x ls).refused ≡ None → (read x ls).fits ≡ true → Fed text ls → (b : Bool) → leb (length (drain (read x ls).queue)) (length rooms.events / event_numbers) ≡ b
           → Claim (handed_out (drain (read x ls).queue) (read x ls).labels rooms)
       go r f fed true b e =
           record { whole = whole x ls fed r; count = rw (b, handed_out); handed = rw (b, handed_out) }
@@ -106,7 +106,7 @@ module _ (text : List ℕ) (ls : List Line) (reading : ℕ) (rooms : Rooms) wher
       Claim : Outcome → Type 0
       Claim o = o.answer.code ≡ 0 → AcceptedHomes text ls reading rooms o
 
-      go : (read x ls).refused ≡ refused.No → (read x ls).fits ≡ true → Fed text ls → (b : Bool) → leb (length (drain (read x ls).queue)) (length rooms.events / event_numbers) ≡ b
+      go : (read x ls).refused ≡ None → (read x ls).fits ≡ true → Fed text ls → (b : Bool) → leb (length (drain (read x ls).queue)) (length rooms.events / event_numbers) ≡ b
           → Claim (handed_out (drain (read x ls).queue) (read x ls).labels rooms)
       go r f fed true b e = record { homes = rw (b, handed_out) (homes x ls fed r f) }
       go r f fed false b e = absurd (omega (arith, rw (b, handed_out) at e))

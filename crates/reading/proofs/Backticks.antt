@@ -1,4 +1,5 @@
 -- Verbatim: the invariant behind a run that opens, content, dropped blanks and a run that closes; and what is dropped is blank.
+use Rattle.std.specs.Prelude.{None, Option, Some}
 use Prim.Native.Nat.{ℕ, zero, suc, ◌+◌, ◌-◌, ◌≤◌, ◌<◌}
 use mathlib.Core.Path.{◌≡◌, refl, sym, ap, ◌∙◌, subst}
 use mathlib.Core.List.{List, [], ◌∷◌, ◌++◌, map, map-append}
@@ -11,21 +12,15 @@ use lib.ListN.{length, get_or, drop, length-append, length-drop, drop_of_length-
 use lib.Seq.{take_all, drop-append-le, length-take-le, get_or-take, get_or-drop}
 use Rattle.classes.specs.Classes.{blank}
 use Rattle.lex.specs.declared.lex.Token.{Token}
-use Rattle.lex.specs.declared.lex.Next.{Next}
-use Rattle.lex.specs.declared.lex.Next.TheVariants as next
 use Rattle.lex.specs.declared.lex.Cursor.{Cursor}
 use Rattle.lex.specs.Lexer.{peek_of}
 use Rattle.lex.proofs.Laws.{Sound, fresh-sound}
-use Rattle.scan.specs.declared.Ahead.{Ahead}
-use Rattle.scan.specs.declared.Ahead.TheVariants as ahead
 use Rattle.scan.proofs.Laws.{raw-format-some}
 use Rattle.reading.specs.declared.Line.{Line}
 use Rattle.reading.specs.declared.Event.{Event}
 use Rattle.reading.specs.declared.Last.{Last}
 use Rattle.reading.specs.declared.Opener.{Opener}
 use Rattle.reading.specs.declared.Verbatim.{Verbatim}
-use Rattle.reading.specs.declared.Inside.{Inside}
-use Rattle.reading.specs.declared.Inside.TheVariants as inside
 use Rattle.reading.specs.declared.Home.{Home}
 use Rattle.reading.specs.Events.{event, nowhere, in_text, becomes, shorter, exit_of, enter, str, raw_format}
 use Rattle.reading.specs.Machine.{View, Rules, State, Here, amend, amend_last, put}
@@ -77,9 +72,9 @@ unfolding Of
 drop-end n q l text i o = absurd (subst (λ (x : List Event). Of (map span_of x) i) (drop_of_length-le q l) o)
 
 module _ (Loose : ℕ → Type 0) (text : List ℕ) where
-  good-in : (w : Verbatim) (at n : ℕ) (s : State) → s.inside ≡ inside.Verbatim w → In Loose text w at n s → Good Loose text at n s
+  good-in : (w : Verbatim) (at n : ℕ) (s : State) → s.inside ≡ Some w → In Loose text w at n s → Good Loose text at n s
   unfolding GoodBy
-  good-in w at n s e g = subst (λ (i : Inside). GoodBy Loose text i at n s) (sym e) g
+  good-in w at n s e g = subst (λ (i : Option Verbatim). GoodBy Loose text i at n s) (sym e) g
 
   -- a run opens
   module _ (v : View) (m : ℕ) (h : Here) (k : HereOk v h) (s : State) (g : Out Loose text (v.base + h.from) (m + h.from) s) where
@@ -154,14 +149,14 @@ unfolding kept
 kept-few w q = choose (λ (l : List Event). length l ≤ length q) w.run _ _ (λ e. take-few w.keep q) (λ e. omega arith)
 
 -- an accepted raw format ends before the line does
-pub format-within : (v : View) (j n : ℕ) (t : Next) → format_ahead v j t ≡ ahead.Some n → j + 2 + n + 1 ≤ length v.bytes
+pub format-within : (v : View) (j n : ℕ) (t : Option Token) → format_ahead v j t ≡ Some n → j + 2 + n + 1 ≤ length v.bytes
 unfolding format_ahead
-format-within v j n next.None e = absurd (apart n e)
+format-within v j n None e = absurd (apart n e)
   where
-    apart : (n : ℕ) → ahead.None ≡ ahead.Some n → ⊥
+    apart : (n : ℕ) → None ≡ Some n → ⊥
     apart n e = let z : ◌≡◌ {A = ℕ} 0 1 = cc in omega arith
-format-within v j n (next.Some t) e =
-    choose (λ (f : Ahead). f ≡ ahead.Some n → j + 2 + n + 1 ≤ length v.bytes) (is_format (role_of t.kind)) _ _
+format-within v j n (Some t) e =
+    choose (λ (f : Option ℕ). f ≡ Some n → j + 2 + n + 1 ≤ length v.bytes) (is_format (role_of t.kind)) _ _
     (λ y e. omega (arith, (raw-format-some (drop (j + 2) v.bytes) n e).0.within, length-drop (j + 2) v.bytes))
     (λ y e. let z : ◌≡◌ {A = ℕ} 0 1 = cc in absurd (omega arith)) e
 
@@ -198,7 +193,7 @@ module _ (Loose : ℕ → Type 0) (text : List ℕ) (w : Verbatim) where
         }
 
   -- a token inside
-  module _ (v : View) (shows : Shows text v) (m : ℕ) (h : Here) (k : HereOk v h) (s : State) (is : s.inside ≡ inside.Verbatim w)
+  module _ (v : View) (shows : Shows text v) (m : ℕ) (h : Here) (k : HereOk v h) (s : State) (is : s.inside ≡ Some w)
       (g : In Loose text w (v.base + h.from) (m + h.from) s) where
     from : ℕ
     from = v.base + h.from
@@ -286,14 +281,14 @@ module _ (Loose : ℕ → Type 0) (text : List ℕ) (w : Verbatim) where
         (λ y. skip-good (loose y)) (λ y. blank-put bl)))
 
     closed-fine : ((j : ℕ) → Of (map span_of (cut w s.queue)) j → Loose j) → (c : Cursor) → Sound v.bytes c → c.pos ≡ h.to
-        → (f : Ahead) → ((n : ℕ) → f ≡ ahead.Some n → h.to + 2 + n + 1 ≤ length v.bytes)
+        → (f : Option ℕ) → ((n : ℕ) → f ≡ Some n → h.to + 2 + n + 1 ≤ length v.bytes)
         → Fine Loose text v m (suc h.from) (closed_with v h c w f s)
     unfolding closed_with GoodBy
-    closed-fine loose c so p ahead.None fit =
+    closed-fine loose c so p None fit =
         fine-at Loose text v m (suc h.from) h.to (omega (arith, k.long)) (flagged false c) _ (sound-flagged v.bytes false c so) p
         (exits-out s s.queue s.openers (v.base + h.from) (v.base + h.to) (m + h.from) (m + h.to) g.covers g.inner g.few g.low g.high
         (omega (arith, k.long)) loose (omega (arith, g.opens, k.long)) (omega (arith, k.long)) _ refl refl refl)
-    closed-fine loose c so p (ahead.Some n) fit =
+    closed-fine loose c so p (Some n) fit =
         fine-at Loose text v m (suc h.from) (h.to + 2 + n + 1) (omega (arith, k.long)) _ _ (fresh-sound v.bytes (h.to + 2 + n + 1) false (fit n refl)) refl
         (exits-out s q s.openers (v.base + h.from) (v.base + (h.to + 2 + n + 1)) (m + h.from) (m + (h.to + 2 + n + 1))
         (covers-amend Loose (enter raw_format) home w.event 0 s.queue (v.base + h.from) g.covers)

@@ -1,5 +1,7 @@
 -- Only an attribute block refuses, and it is met outside verbatim: every other rule leaves `refused` as it was. So the end adds nothing to a refused
 -- sheet. And the links of a line are at most its bytes.
+use Rattle.std.specs.Prelude.{None, Option, Some}
+use Rattle.reading.specs.declared.Verbatim.{Verbatim}
 use Prim.Native.Nat.{ℕ, zero, suc, ◌+◌, ◌≤◌}
 use mathlib.Core.Path.{◌≡◌, refl, sym, ap, ◌∙◌}
 use mathlib.Core.List.{List, [], ◌∷◌}
@@ -7,15 +9,10 @@ use mathlib.Core.Logic.{◌⊎◌, inl, inr, ⊎_elim}
 use native.Mathlib.Omega.{arith}
 use lib.ListN.{length}
 use Rattle.lex.specs.declared.lex.Token.{Token}
-use Rattle.lex.specs.declared.lex.Next.{Next}
-use Rattle.lex.specs.declared.lex.Next.TheVariants as next
 use Rattle.lex.specs.declared.lex.Cursor.{Cursor}
 use Rattle.lex.specs.Lexer.{next_of}
 use Rattle.reading.specs.declared.Place.{Place}
 use Rattle.reading.specs.declared.Role.{Role}
-use Rattle.reading.specs.declared.Inside.{Inside}
-use Rattle.reading.specs.declared.Inside.TheVariants as inside
-use Rattle.reading.specs.declared.Refused.TheVariants as refused
 use Rattle.reading.specs.Machine.{View, Sheet, State, Turn, Here}
 use Rattle.reading.specs.Tokens.{role_of}
 use Rattle.reading.specs.Verbatim.{moved_on}
@@ -35,30 +32,30 @@ module _ (x : Sheet) (v : View) where
   unfolding close_as
   outside-spared s h r = ruled x x v s (λ a b. Spared s a) (λ a k. inl (ap (λ z. z.0) k)) (λ h o t os. inl refl) (λ h. inl refl) (λ p. refl) (λ h. inr refl) h r
 
-  by-spared : (s : State) (h : Here) (t : Token) (w : Inside) → s.inside ≡ w
-      → ((by_place x v h t w s).state.refused ≡ s.refused) ⊎ ((by_place x v h t w s).state.inside ≡ inside.No)
+  by-spared : (s : State) (h : Here) (t : Token) (w : Option Verbatim) → s.inside ≡ w
+      → ((by_place x v h t w s).state.refused ≡ s.refused) ⊎ ((by_place x v h t w s).state.inside ≡ None)
   unfolding by_place
-  by-spared s h t inside.No is =
+  by-spared s h t None is =
       let b = outside x v h (role_of t.kind) s in
       ⊎_elim (λ (e : b.state.refused ≡ s.refused). inl e) (λ (e : b.state.inside ≡ s.inside). inr (e ∙ is)) (outside-spared s h (role_of t.kind))
-  by-spared s h t (inside.Verbatim w) is = inl (ap (λ z. z.0) (in_kept v h s x.rules t w))
+  by-spared s h t (Some w) is = inl (ap (λ z. z.0) (in_kept v h s x.rules t w))
 
-  on-spared : (a : Turn) (t : Next) (c : Cursor)
-      → ((on_token x v a t c).state.refused ≡ a.state.refused) ⊎ ((on_token x v a t c).state.inside ≡ inside.No)
+  on-spared : (a : Turn) (t : Option Token) (c : Cursor)
+      → ((on_token x v a t c).state.refused ≡ a.state.refused) ⊎ ((on_token x v a t c).state.inside ≡ None)
   unfolding on_token
-  on-spared a next.None c = inl refl
-  on-spared a (next.Some t) c = by-spared a.state (here_at a.cursor t c) t a.state.inside refl
+  on-spared a None c = inl refl
+  on-spared a (Some t) c = by-spared a.state (here_at a.cursor t c) t a.state.inside refl
 
 -- a step that refuses is outside verbatim
-brace-step : (x : Sheet) (v : View) (a : Turn) → a.state.refused ≡ refused.No → (p : Place) → (step x v a).state.refused ≡ refused.At p
-    → (step x v a).state.inside ≡ inside.No
+brace-step : (x : Sheet) (v : View) (a : Turn) → a.state.refused ≡ None → (p : Place) → (step x v a).state.refused ≡ Some p
+    → (step x v a).state.inside ≡ None
 brace-step x v a un p at =
-    ⊎_elim (λ (e : (step x v a).state.refused ≡ a.state.refused). absurd (met p (sym at ∙ e ∙ un))) (λ (e : (step x v a).state.inside ≡ inside.No). e)
+    ⊎_elim (λ (e : (step x v a).state.refused ≡ a.state.refused). absurd (met p (sym at ∙ e ∙ un))) (λ (e : (step x v a).state.inside ≡ None). e)
     (on-spared x v a (next_of v.bytes a.cursor).token (next_of v.bytes a.cursor).cursor)
 
 -- refused only outside verbatim
 abbrev pub Outside : State → Type 0
-Outside s = (p : Place) → s.refused ≡ refused.At p → s.inside ≡ inside.No
+Outside s = (p : Place) → s.refused ≡ Some p → s.inside ≡ None
 
 steps-outside : (n : ℕ) (x : Sheet) (v : View) (a : Turn) → Outside a.state → Outside (steps n x v a).state
 unfolding steps

@@ -1,4 +1,7 @@
 -- Containers: whatever a token closes or opens, the invariant holds behind it.
+use Rattle.std.specs.Prelude.{None, Option, Some}
+use Rattle.lex.specs.declared.lex.Token.{Token}
+use Rattle.reading.specs.declared.Verbatim.{Verbatim}
 use Prim.Native.Nat.{ℕ, suc, ◌+◌, ◌-◌, ◌≤◌, ◌<◌}
 use mathlib.Core.Path.{◌≡◌, refl, sym, ap, ◌∙◌, subst}
 use mathlib.Core.List.{List, [], ◌∷◌, ◌++◌, map-append}
@@ -6,26 +9,20 @@ use mathlib.Core.Bool.{Bool, true, false}
 use mathlib.Core.Logic.{inl}
 use native.Mathlib.Omega.{arith}
 use lib.ListN.{length, take, set, length-append, length-map}
-use Rattle.lex.specs.declared.lex.Next.{Next}
-use Rattle.lex.specs.declared.lex.Next.TheVariants as next
 use Rattle.lex.specs.declared.lex.Cursor.{Cursor}
 use Rattle.lex.specs.Lexer.{peek_of}
 use Rattle.lex.proofs.Laws.{Sound, peek-kept}
 use Rattle.reading.specs.declared.Event.{Event}
 use Rattle.reading.specs.declared.Sort.{Sort}
 use Rattle.reading.specs.declared.Opener.{Opener}
-use Rattle.reading.specs.declared.Opens.{Opens}
-use Rattle.reading.specs.declared.Opens.TheVariants as opens
 use Rattle.reading.specs.declared.Marks.{Marks}
-use Rattle.reading.specs.declared.Inside.{Inside}
-use Rattle.reading.specs.declared.Inside.TheVariants as inside
 use Rattle.reading.specs.declared.DelimEventKind.{DelimEventKind}
 use Rattle.reading.specs.declared.DelimEventKind.TheVariants as makes
 use Rattle.reading.specs.Events.{event, nowhere, becomes, becomes_to, enter, exit, str}
 use Rattle.reading.specs.Machine.{View, Sheet, State, Here, amend, put, with_openers}
 use Rattle.reading.specs.Tokens.{role_of, unclosed, closing_of, link_sort}
 use Rattle.reading.specs.Labels.{Labelled}
-use Rattle.reading.specs.Containers.{Along, along, by_itself, seek, may_close, closes_pair, takes, span_with, closes_span, labelled}
+use Rattle.reading.specs.Containers.{seek, may_close, closes_pair, takes, span_with, closes_span, labelled}
 use Rattle.reading.specs.Containers.{closes_link, close_as, may_open, open_as, opens_or, tried, container}
 use Rattle.reading.specs.Walked.{Walk, neither, walk_by, walk_of}
 use Rattle.reading.proofs.Choose.{choose}
@@ -38,11 +35,11 @@ use Rattle.reading.proofs.Tables.{KindOk, closing-ok, Low, unclosed-low, link-no
 use Rattle.reading.proofs.Places.{HereOk, Fine, fine-at, peek-sound, peek-place, peeked-taken}
 
 module _ (Loose : ℕ → Type 0) (text : List ℕ) where
-  pub good-out : (at n : ℕ) (s : State) → s.inside ≡ inside.No → Out Loose text at n s → Good Loose text at n s
+  pub good-out : (at n : ℕ) (s : State) → s.inside ≡ None → Out Loose text at n s → Good Loose text at n s
   unfolding GoodBy
-  good-out at n s e o = subst (λ (i : Inside). GoodBy Loose text i at n s) (sym e) o
+  good-out at n s e o = subst (λ (i : Option Verbatim). GoodBy Loose text i at n s) (sym e) o
 
-  module _ (v : View) (m : ℕ) (h : Here) (k : HereOk v h) (s : State) (no : s.inside ≡ inside.No) (g : Out Loose text (v.base + h.from) (m + h.from) s) where
+  module _ (v : View) (m : ℕ) (h : Here) (k : HereOk v h) (s : State) (no : s.inside ≡ None) (g : Out Loose text (v.base + h.from) (m + h.from) s) where
     abbrev Then : State → Type 0
     Then r = Out Loose text (v.base + h.to) (m + h.to) r
 
@@ -65,15 +62,15 @@ module _ (Loose : ℕ → Type 0) (text : List ℕ) where
         (parts-open (walks s.queue) (record { sort = o; event = length s.queue; span = 0 }) s.openers size g.parts si))
         (omega (arith, g.opens, k.long))
 
-    opens-then : (alone : ℕ) (o : Opens) → Low alone → OpensOk o → Then (opens_or v h alone o s)
+    opens-then : (alone : ℕ) (o : Option Sort) → Low alone → OpensOk o → Then (opens_or v h alone o s)
     unfolding opens_or OpensOk
-    opens-then alone opens.None l ok = put_then alone l
-    opens-then alone (opens.Some o) l ok = choose Then (may_open v h s o) _ _ (λ e. open-then o ok) (λ e. put_then alone l)
+    opens-then alone None l ok = put_then alone l
+    opens-then alone (Some o) l ok = choose Then (may_open v h s o) _ _ (λ e. open-then o ok) (λ e. put_then alone l)
 
-    opens-inside : (alone : ℕ) (o : Opens) → (opens_or v h alone o s).inside ≡ inside.No
+    opens-inside : (alone : ℕ) (o : Option Sort) → (opens_or v h alone o s).inside ≡ None
     unfolding opens_or
-    opens-inside alone opens.None = no
-    opens-inside alone (opens.Some o) = choose (λ (t : State). t.inside ≡ inside.No) (may_open v h s o) _ _ (λ e. no) (λ e. no)
+    opens-inside alone None = no
+    opens-inside alone (Some o) = choose (λ (t : State). t.inside ≡ None) (may_open v h s o) _ _ (λ e. no) (λ e. no)
 
     -- closing, with the found opener o and the older ones os
     module _ (o : Opener) (os : List Opener) (p : Parts (walks s.queue) (o ∷ os)) (few : suc (length os) ≤ length s.openers) where
@@ -198,15 +195,15 @@ module _ (Loose : ℕ → Type 0) (text : List ℕ) where
       behind-place : (peek_of v.bytes h.cursor).cursor.pos ≡ h.to
       behind-place = peek-place v.bytes h.cursor h.to k.place
 
-      span-fine : (image : Bool) → Top (λ (w : List Walk). Parts w os) (walks s.queue) o.event → (c : Cursor) (t : Next) → c.pos ≡ h.to → Sound v.bytes c
+      span-fine : (image : Bool) → Top (λ (w : List Walk). Parts w os) (walks s.queue) o.event → (c : Cursor) (t : Option Token) → c.pos ≡ h.to → Sound v.bytes c
           → c.next ≡ t → Fine Loose text v m (suc h.from) (closes_span v h image o c t rest)
       unfolding closes_span span_with takes
-      span-fine image top c next.None e so n = fine-at Loose text v m (suc h.from) h.to (omega (arith, k.long)) c _ so e (good-out _ _ _ no left-then)
-      span-fine image top c (next.Some t) e so n = go (takes (role_of t.kind))
+      span-fine image top c None e so n = fine-at Loose text v m (suc h.from) h.to (omega (arith, k.long)) c _ so e (good-out _ _ _ no left-then)
+      span-fine image top c (Some t) e so n = go (takes (role_of t.kind))
         where
-          go : (b : Along) → Fine Loose text v m (suc h.from) (span_with v h image o c t.len b rest)
-          go by_itself = fine-at Loose text v m (suc h.from) h.to (omega (arith, k.long)) c _ so e (good-out _ _ _ no left-then)
-          go (along inline) =
+          go : (b : Option Bool) → Fine Loose text v m (suc h.from) (span_with v h image o c t.len b rest)
+          go None = fine-at Loose text v m (suc h.from) h.to (omega (arith, k.long)) c _ so e (good-out _ _ _ no left-then)
+          go (Some inline) =
               let u = peeked-taken v.bytes c t so n in
               fine-at Loose text v m (suc h.from) (h.to + t.len) (omega (arith, k.long)) _ _ u.sound (u.place ∙ ap (λ (j : ℕ). j + t.len) e)
               (good-out _ _ _ no (taken_then image inline t.len u.long top))

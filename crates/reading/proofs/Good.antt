@@ -1,5 +1,6 @@
 -- The invariant of a reading, outside and inside verbatim, and what each change of the state makes of it. `at` is the place up to which the
 -- queue's spans go, and n bounds the bytes of the lines up to there.
+use Rattle.std.specs.Prelude.{None, Option, Some}
 use Prim.Native.Nat.{ℕ, suc, ◌+◌, ◌-◌, ◌≤◌, ◌<◌}
 use mathlib.Core.Path.{◌≡◌, refl, sym, subst}
 use mathlib.Core.List.{List, [], ◌∷◌, ◌++◌, map, map-append}
@@ -14,8 +15,6 @@ use Rattle.reading.specs.declared.Event.{Event}
 use Rattle.reading.specs.declared.Opener.{Opener}
 use Rattle.reading.specs.declared.Last.{Last}
 use Rattle.reading.specs.declared.Verbatim.{Verbatim}
-use Rattle.reading.specs.declared.Inside.{Inside}
-use Rattle.reading.specs.declared.Inside.TheVariants as inside
 use Rattle.reading.specs.declared.Home.{Home}
 use Rattle.reading.specs.Events.{event, str}
 use Rattle.reading.specs.Machine.{View, State, dollar, dollars_of, last_of, puts, put, with_openers}
@@ -84,9 +83,9 @@ module _ (Loose : ℕ → Type 0) (text : List ℕ) where
     pub high : w.keep ≤ length s.queue
     pub blanks : Blank text (drop w.keep s.queue)
 
-  unfoldable pub GoodBy : Inside → ℕ → ℕ → State → Type 0
-  GoodBy inside.No at n s = Out at n s
-  GoodBy (inside.Verbatim w) at n s = In w at n s
+  unfoldable pub GoodBy : Option Verbatim → ℕ → ℕ → State → Type 0
+  GoodBy None at n s = Out at n s
+  GoodBy (Some w) at n s = In w at n s
 
   abbrev pub Good : ℕ → ℕ → State → Type 0
   Good at n s = GoodBy s.inside at n s
@@ -124,7 +123,7 @@ module _ (Loose : ℕ → Type 0) (text : List ℕ) where
   out-openers os at n s o p l = record { covers = o.covers; parts = p; few = o.few; opens = l; last = o.last }
 
   -- outside and inside, the queue and the openers are bounded
-  pub good-few : (w : Inside) (at n : ℕ) (s : State) → GoodBy w at n s → (length s.queue ≤ n) × (length s.openers ≤ n)
+  pub good-few : (w : Option Verbatim) (at n : ℕ) (s : State) → GoodBy w at n s → (length s.queue ≤ n) × (length s.openers ≤ n)
   unfolding GoodBy
-  good-few inside.No at n s g = (g.few, g.opens)
-  good-few (inside.Verbatim w) at n s g = (g.few, g.opens)
+  good-few None at n s g = (g.few, g.opens)
+  good-few (Some w) at n s g = (g.few, g.opens)

@@ -1,4 +1,7 @@
 -- Only what is of a fed line and of no dropped blank is shown: no other span than a link's exit goes over anything else. No rule shows a byte anew that lies before its token.
+use Rattle.std.specs.Prelude.{None, Option, Some}
+use Rattle.reading.specs.declared.Closer.{Closer}
+use Rattle.reading.specs.declared.Sort.{Sort}
 use Prim.Native.Nat.{ℕ, zero, suc, ◌+◌, ◌-◌, ◌*◌, ◌≤◌, ◌<◌}
 use mathlib.Core.Path.{◌≡◌, refl, sym, ap, ◌∙◌, subst}
 use mathlib.Core.List.{List, [], ◌∷◌, ◌++◌, map}
@@ -11,23 +14,14 @@ use lib.Dec.{eqb, ltb}
 use lib.ListN.{length, get_or, take, drop, get_or-map, take-append-drop}
 use lib.Seq.{get_or_at}
 use Rattle.lex.specs.declared.lex.Token.{Token}
-use Rattle.lex.specs.declared.lex.Next.{Next}
-use Rattle.lex.specs.declared.lex.Next.TheVariants as next
 use Rattle.lex.specs.declared.lex.Cursor.{Cursor}
 use Rattle.lex.specs.Lexer.{next_of, peek_of}
-use Rattle.scan.specs.declared.Ahead.{Ahead}
-use Rattle.scan.specs.declared.Ahead.TheVariants as ahead
 use Rattle.dash.specs.declared.Dashes.{Dashes}
 use Rattle.reading.specs.declared.Role.{Role}
 use Rattle.reading.specs.declared.Event.{Event}
 use Rattle.reading.specs.declared.Line.{Line}
 use Rattle.reading.specs.declared.Opener.{Opener}
-use Rattle.reading.specs.declared.Opens.{Opens}
-use Rattle.reading.specs.declared.Opens.TheVariants as opens
 use Rattle.reading.specs.declared.Verbatim.{Verbatim}
-use Rattle.reading.specs.declared.Inside.{Inside}
-use Rattle.reading.specs.declared.Inside.TheVariants as inside
-use Rattle.reading.specs.declared.Refused.TheVariants as refused
 use Rattle.reading.specs.declared.DelimEventKind.{DelimEventKind}
 use Rattle.reading.specs.declared.DelimEventKind.TheVariants as makes
 use Rattle.reading.specs.declared.Home.{Home}
@@ -37,7 +31,7 @@ use Rattle.reading.specs.Tokens.{role_of, closing_of}
 use Rattle.reading.specs.Atoms.{row, dashes}
 use Rattle.reading.specs.Verbatim.{nothing, taken, opened_as, closes, kept, formatted, closed_with, all_blank, bytes_of, skips, blank_content}
 use Rattle.reading.specs.Verbatim.{in_verbatim, flagged, ended_at}
-use Rattle.reading.specs.Containers.{Along, along, by_itself, seek, takes, span_with, closes_span, close_as, may_open, opens_or}
+use Rattle.reading.specs.Containers.{seek, takes, span_with, closes_span, close_as, may_open, opens_or}
 use Rattle.reading.specs.Reading.{outside, by_place, here_at, on_token, step, steps, begun, line, lines, start, end_of, views}
 use Rattle.reading.specs.Draining.{flushed, touches, drained}
 use Rattle.reading.specs.Walked.{Walk, neither, opening, closing, walk_by, walk_of, link_exit, Shown, Of}
@@ -172,22 +166,22 @@ module _ (Loose : ℕ → Type 0) (text : List ℕ) (x : Sheet) (v : View) (i n 
   lone : (kind : ℕ) (h : Here) → At h → Grows (v.base + i) s.queue (s.queue ++ event kind (v.base + h.from) (v.base + h.to) ∷ [])
   lone kind h a = put-grows kind h.from h.to s.queue (omega (arith, a.0)) (grows_same _ s.queue)
 
-  opens-grows : (h : Here) → At h → (alone : ℕ) (o : Opens) → Grows (v.base + i) s.queue (opens_or v h alone o s).queue
+  opens-grows : (h : Here) → At h → (alone : ℕ) (o : Option Sort) → Grows (v.base + i) s.queue (opens_or v h alone o s).queue
   unfolding opens_or
-  opens-grows h a alone opens.None = lone alone h a
-  opens-grows h a alone (opens.Some o) =
+  opens-grows h a alone None = lone alone h a
+  opens-grows h a alone (Some o) =
       choose (λ (t : State). Grows (v.base + i) s.queue t.queue) (may_open v h s o) _ _ (λ e. lone _ h a) (λ e. lone alone h a)
 
   -- what closes
   module _ (h : Here) (a : At h) (o : Opener) (os : List Opener) (p : Parts (walks s.queue) (o ∷ os)) where
-    span-grows : (image : Bool) (c : Cursor) (t : Next) → Grows (v.base + i) s.queue (closes_span v h image o c t (with_openers os s)).state.queue
+    span-grows : (image : Bool) (c : Cursor) (t : Option Token) → Grows (v.base + i) s.queue (closes_span v h image o c t (with_openers os s)).state.queue
     unfolding closes_span span_with
-    span-grows image c next.None = lone str h a
-    span-grows image c (next.Some t) = go (takes (role_of t.kind))
+    span-grows image c None = lone str h a
+    span-grows image c (Some t) = go (takes (role_of t.kind))
       where
-        go : (b : Along) → Grows (v.base + i) s.queue (span_with v h image o c t.len b (with_openers os s)).state.queue
-        go by_itself = lone str h a
-        go (along inline) = put-grows str h.to (h.to + t.len) _ a.1 (lone str h a)
+        go : (b : Option Bool) → Grows (v.base + i) s.queue (span_with v h image o c t.len b (with_openers os s)).state.queue
+        go None = lone str h a
+        go (Some inline) = put-grows str h.to (h.to + t.len) _ a.1 (lone str h a)
 
     closed-grows : (d : DelimEventKind) → closing_of o.sort ≡ d → KindOk d → Grows (v.base + i) s.queue (close_as x v h o d (with_openers os s)).state.queue
     unfolding close_as KindOk TopBy
@@ -201,7 +195,7 @@ module _ (Loose : ℕ → Type 0) (text : List ℕ) (x : Sheet) (v : View) (i n 
         λ j y. inl (shown-amend j _ _ o.span s.queue (neither-low s.queue t.pre _ o.span t.parted t.first)
         (shown-exit j _ _ _ (o.event - 1) _ ok.0 (shown-take j o.event _ y)))
 
-  closes-grows : (h : Here) → At h → (c : ℕ) (o : Opener) (os : List Opener) → seek c s.openers ≡ o ∷ os
+  closes-grows : (h : Here) → At h → (c : Option Closer) (o : Opener) (os : List Opener) → seek c s.openers ≡ o ∷ os
       → Grows (v.base + i) s.queue (close_as x v h o (closing_of o.sort) (with_openers os s)).state.queue
   closes-grows h a c o os k =
       closed-grows h a o os (subst (λ (l : List Opener). Parts (walks s.queue) l) k (parts-seek c (walks s.queue) s.openers g.parts))
@@ -279,10 +273,10 @@ kept-shown : (w : Verbatim) (i : ℕ) (q : List Event) → Shown i (kept w q) �
 unfolding kept
 kept-shown w i q = choose (λ (l : List Event). Shown i l → Shown i q) w.run _ _ (λ e. shown-take i w.keep q) (λ e x. x)
 
-good-covers : (Loose : ℕ → Type 0) (text : List ℕ) (w : Inside) (at n : ℕ) (s : State) → GoodBy Loose text w at n s → Covers Loose 0 s.queue at
+good-covers : (Loose : ℕ → Type 0) (text : List ℕ) (w : Option Verbatim) (at n : ℕ) (s : State) → GoodBy Loose text w at n s → Covers Loose 0 s.queue at
 unfolding GoodBy
-good-covers Loose text inside.No at n s g = g.covers
-good-covers Loose text (inside.Verbatim w) at n s g = g.covers
+good-covers Loose text None at n s g = g.covers
+good-covers Loose text (Some w) at n s g = g.covers
 
 -- a token inside a verbatim
 module _ (Loose : ℕ → Type 0) (text : List ℕ) (w : Verbatim) (v : View) (n : ℕ) (h : Here) (k : HereOk v h) (s : State)
@@ -299,11 +293,11 @@ module _ (Loose : ℕ → Type 0) (text : List ℕ) (w : Verbatim) (v : View) (n
   put_in : Grows from s.queue (s.queue ++ event str (v.base + h.from) (v.base + h.to) ∷ [])
   put_in = grows-puts from s.queue s.queue _ (grows_same from s.queue) (behind-one from (event str (v.base + h.from) (v.base + h.to)) (omega arith))
 
-  closed_in : (c : Cursor) (f : Ahead) → Grows from s.queue (closed_with v h c w f s).state.queue
+  closed_in : (c : Cursor) (f : Option ℕ) → Grows from s.queue (closed_with v h c w f s).state.queue
   unfolding closed_with
-  closed_in c ahead.None =
+  closed_in c None =
       grows-puts from s.queue (kept w s.queue) _ (λ i x. inl (kept-shown w i s.queue x)) (behind-one from _ (omega arith))
-  closed_in c (ahead.Some m) =
+  closed_in c (Some m) =
       let q = formatted v (h.to + 2) m w s.queue in
       grows-puts from s.queue (kept w q) _ (λ i x. inl (shown-amend i _ _ w.event s.queue enter-low (kept-shown w i q x))) (behind-one from _ (omega arith))
 
@@ -320,10 +314,10 @@ module _ (Loose : ℕ → Type 0) (text : List ℕ) (w : Verbatim) (v : View) (n
       (λ e. choose (λ (a : Turn). Grows from s.queue a.state.queue) (all_blank (bytes_of v h)) _ _ (λ y. blank-in) (λ y. put_in))
 
   -- the cursor behind it
-  closed-far : (c : Cursor) (f : Ahead) → h.to ≤ c.pos → h.to ≤ (closed_with v h c w f s).cursor.pos
+  closed-far : (c : Cursor) (f : Option ℕ) → h.to ≤ c.pos → h.to ≤ (closed_with v h c w f s).cursor.pos
   unfolding closed_with
-  closed-far c ahead.None l = l
-  closed-far c (ahead.Some m) l = omega arith
+  closed-far c None l = l
+  closed-far c (Some m) l = omega arith
 
   in-far : (r : Rules) (t : Token) → h.to ≤ (in_verbatim r v h t w s).cursor.pos
   unfolding in_verbatim blank_content
@@ -338,12 +332,12 @@ module _ (Loose : ℕ → Type 0) (text : List ℕ) (w : Verbatim) (v : View) (n
       Far a = h.to ≤ a.cursor.pos
 
   -- what it leaves out is not shown
-  closed-off : (c : Cursor) (f : Ahead) (i : ℕ) → Of (map span_of (cut w s.queue)) i → (i < from) × (Shown i (closed_with v h c w f s).state.queue → ⊥)
+  closed-off : (c : Cursor) (f : Option ℕ) (i : ℕ) → Of (map span_of (cut w s.queue)) i → (i < from) × (Shown i (closed_with v h c w f s).state.queue → ⊥)
   unfolding closed_with
-  closed-off c ahead.None i o =
+  closed-off c None i o =
       let z = cut_apart Loose w i s.queue from g.covers o in
       (z.0, λ x. ⊎_elim z.1 (λ y. omega (arith, z.0, behind-one from _ (omega arith) i y)) (shown-parts i (kept w s.queue) _ x))
-  closed-off c (ahead.Some m) i o =
+  closed-off c (Some m) i o =
       let home = in_text (v.base + (h.to + 2)) (v.base + (h.to + 2) + m) in
       let q = formatted v (h.to + 2) m w s.queue in
       let z = cut_apart Loose w i q from (covers-amend Loose (enter raw_format) home w.event 0 s.queue from g.covers)
@@ -383,29 +377,29 @@ module _ (Loose : ℕ → Type 0) (text : List ℕ) (w : Verbatim) (v : View) (n
 
 -- a byte lies before the turn's place and is not shown, unless a brace was met
 abbrev Off : View → ℕ → Turn → Type 0
-Off v i a = a.state.refused ≡ refused.No → (i < v.base + a.cursor.pos) × (Shown i a.state.queue → ⊥)
+Off v i a = a.state.refused ≡ None → (i < v.base + a.cursor.pos) × (Shown i a.state.queue → ⊥)
 
 module _ (text : List ℕ) (x : Sheet) (v : View) (m : ℕ) (shows : Shows text v) where
-  module _ (a : Turn) (un : a.state.refused ≡ refused.No) (held : Held Any text v m 0 a) where
+  module _ (a : Turn) (un : a.state.refused ≡ None) (held : Held Any text v m 0 a) where
     -- a step shows nothing anew that lies before it
     step-grows : Grows (v.base + a.cursor.pos) a.state.queue (step x v a).state.queue
     unfolding on_token by_place GoodBy
     step-grows = on (next_of v.bytes a.cursor).token refl
       where
-        by : (t : Token) → (next_of v.bytes a.cursor).token ≡ next.Some t → (w : Inside)
+        by : (t : Token) → (next_of v.bytes a.cursor).token ≡ Some t → (w : Option Verbatim)
             → GoodBy Any text w (v.base + a.cursor.pos) (m + a.cursor.pos) a.state
             → let h = here_at a.cursor t (next_of v.bytes a.cursor).cursor in
             Grows (v.base + a.cursor.pos) a.state.queue (by_place x v h t w a.state).state.queue
-        by t e inside.No g = outside-grows Any text x v a.cursor.pos _ a.state g _ (refl, omega arith) (role_of t.kind)
-        by t e (inside.Verbatim w) g = in-grows Any text w v _ _ (here-ok v a.cursor t held.sound e) a.state g x.rules t
+        by t e None g = outside-grows Any text x v a.cursor.pos _ a.state g _ (refl, omega arith) (role_of t.kind)
+        by t e (Some w) g = in-grows Any text w v _ _ (here-ok v a.cursor t held.sound e) a.state g x.rules t
 
-        on : (t : Next) → (next_of v.bytes a.cursor).token ≡ t
+        on : (t : Option Token) → (next_of v.bytes a.cursor).token ≡ t
             → Grows (v.base + a.cursor.pos) a.state.queue (on_token x v a t (next_of v.bytes a.cursor).cursor).state.queue
-        on next.None e = grows_same _ a.state.queue
-        on (next.Some t) e = by t e a.state.inside (held.good un).good
+        on None e = grows_same _ a.state.queue
+        on (Some t) e = by t e a.state.inside (held.good un).good
 
     -- nor does it go back
-    step-far : (step x v a).state.refused ≡ refused.No → a.cursor.pos ≤ (step x v a).cursor.pos
+    step-far : (step x v a).state.refused ≡ None → a.cursor.pos ≤ (step x v a).cursor.pos
     step-far z =
         let here : Held Any text v m a.cursor.pos a = record {
           sound = held.sound;
@@ -428,20 +422,20 @@ module _ (text : List ℕ) (x : Sheet) (v : View) (m : ℕ) (shows : Shows text 
     unfolding step_removes removes_on removes_in on_token by_place GoodBy Of
     step_left i o = on (next_of v.bytes a.cursor).token refl o
       where
-        by : (t : Token) → (next_of v.bytes a.cursor).token ≡ next.Some t → (w : Inside)
+        by : (t : Token) → (next_of v.bytes a.cursor).token ≡ Some t → (w : Option Verbatim)
             → GoodBy Any text w (v.base + a.cursor.pos) (m + a.cursor.pos) a.state
             → let h = here_at a.cursor t (next_of v.bytes a.cursor).cursor in
             Of (removes_in v h t w a.state) i → Off v i (by_place x v h t w a.state)
-        by t e inside.No g o = absurd o
-        by t e (inside.Verbatim w) g o =
+        by t e None g o = absurd o
+        by t e (Some w) g o =
             let k = here-ok v a.cursor t held.sound e in
             let u = in-off Any text w v _ _ k a.state g x.rules t i o in
             λ z. (omega (arith, u.0, in-far Any text w v _ _ k a.state g x.rules t), u.1)
 
-        on : (t : Next) → (next_of v.bytes a.cursor).token ≡ t
+        on : (t : Option Token) → (next_of v.bytes a.cursor).token ≡ t
             → Of (removes_on v a t (next_of v.bytes a.cursor).cursor) i → Off v i (on_token x v a t (next_of v.bytes a.cursor).cursor)
-        on next.None e o = absurd o
-        on (next.Some t) e o = by t e a.state.inside (held.good un).good o
+        on None e o = absurd o
+        on (Some t) e o = by t e a.state.inside (held.good un).good o
 
   -- any number of steps
   steps-off : (n : ℕ) (a : Turn) (i : ℕ) → Held Any text v m 0 a → Off v i a → Off v i (steps n x v a)
@@ -465,7 +459,7 @@ module _ (text : List ℕ) (x : Sheet) (v : View) (m : ℕ) (shows : Shows text 
 
 -- behind some lines
 abbrev Past : ℕ → ℕ → State → Type 0
-Past i at s = s.refused ≡ refused.No → (i < at) × (Shown i s.queue → ⊥)
+Past i at s = s.refused ≡ None → (i < at) × (Shown i s.queue → ⊥)
 
 module _ (x : Sheet) where
   module _ (l : Line) (at m : ℕ) (s : State) (low : at ≤ l.start) (up : l.start ≤ l.end) (in_text : l.end ≤ length x.text) (h : Stood Any x.text x at m s) (i : ℕ) where
@@ -539,10 +533,10 @@ module _ (x : Sheet) where
       go (no a) (no b) f later = later (omega (arith, b))
 
 -- the exit at the end has no width
-end-shown : (i b : ℕ) (w : Inside) (s : State) → Shown i (ended_at b w s).queue → Shown i s.queue
+end-shown : (i b : ℕ) (w : Option Verbatim) (s : State) → Shown i (ended_at b w s).queue → Shown i s.queue
 unfolding ended_at Shown
-end-shown i b inside.No s y = y
-end-shown i b (inside.Verbatim w) s y = ⊎_elim (λ (z : Shown i s.queue). z) none (shown-parts i s.queue _ y)
+end-shown i b None s y = y
+end-shown i b (Some w) s y = ⊎_elim (λ (z : Shown i s.queue). z) none (shown-parts i s.queue _ y)
   where
     none : Shown i (exit_of (get_or s.queue w.event nothing) b b ∷ []) → Shown i s.queue
     none (inl z) = absurd (omega (arith, z.1, z.2))
@@ -595,7 +589,7 @@ drained-shown i a b (e ∷ es) y =
     other later (inr (inr z)) =
         inr (⊎_elim (λ (u : (e.end.0 ≤ i) × (i < e.end.0)). absurd (omega (arith, u.0, u.1))) (λ (u : Shown i es). inr u) (later z))
 
-module _ (x : Sheet) (ls : List Line) (r : Rising x.text 0 ls) (s : State) (is : s ≡ lines x (views x.text ls) start) (e : s.refused ≡ refused.No) (i : ℕ) where
+module _ (x : Sheet) (ls : List Line) (r : Rising x.text 0 ls) (s : State) (is : s ≡ lines x (views x.text ls) start) (e : s.refused ≡ None) (i : ℕ) where
   abbrev drawn : List Event
   drawn = drained 0 0 (ended_at (end_of ls 0) s.inside s).queue
 

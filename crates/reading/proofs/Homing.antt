@@ -1,4 +1,6 @@
 -- Homes and link numbers: where all labels fitted, each event has the home and the link number that its kind has. Every rule keeps it of the queue, and so does draining.
+use Rattle.std.specs.Prelude.{None, Option, Some}
+use Rattle.reading.specs.declared.Sort.{Sort}
 use Prim.Native.Nat.{ℕ, zero, suc, ◌+◌, ◌-◌, ◌≤◌, ◌<◌}
 use mathlib.Core.Path.{◌≡◌, refl, ap, ◌∙◌}
 use mathlib.Core.List.{List, [], ◌∷◌, ◌++◌}
@@ -9,25 +11,16 @@ use borrow.Author.Tests.{lt-ltb, le-ltb, le-leb, lt-leb}
 use lib.Dec.{eqb, leb, ltb}
 use lib.ListN.{length, get_or, take, length-append}
 use Rattle.lex.specs.declared.lex.Token.{Token}
-use Rattle.lex.specs.declared.lex.Next.{Next}
-use Rattle.lex.specs.declared.lex.Next.TheVariants as next
 use Rattle.lex.specs.declared.lex.Cursor.{Cursor}
 use Rattle.lex.specs.Lexer.{next_of, peek_of}
-use Rattle.scan.specs.declared.Ahead.{Ahead}
-use Rattle.scan.specs.declared.Ahead.TheVariants as ahead
 use Rattle.dash.specs.declared.Dashes.{Dashes}
 use Rattle.reading.specs.declared.Line.{Line}
 use Rattle.reading.specs.declared.Link.{Link}
 use Rattle.reading.specs.declared.Event.{Event}
 use Rattle.reading.specs.declared.Home.{Home}
 use Rattle.reading.specs.declared.Opener.{Opener}
-use Rattle.reading.specs.declared.Opens.{Opens}
-use Rattle.reading.specs.declared.Opens.TheVariants as opens
 use Rattle.reading.specs.declared.Role.{Role}
 use Rattle.reading.specs.declared.Verbatim.{Verbatim}
-use Rattle.reading.specs.declared.Inside.{Inside}
-use Rattle.reading.specs.declared.Inside.TheVariants as inside
-use Rattle.reading.specs.declared.Refused.TheVariants as refused
 use Rattle.reading.specs.declared.DelimEventKind.{DelimEventKind}
 use Rattle.reading.specs.declared.DelimEventKind.TheVariants as makes
 use Rattle.reading.specs.Events.{homed, event, nowhere, in_text, home_of, becomes, shorter, enter, exit, str, symbol, footnote, ellipsis, emdash}
@@ -38,7 +31,7 @@ use Rattle.reading.specs.Atoms.{row, dashes}
 use Rattle.reading.specs.Labels.{Label, here, built, Labelled, label_of, label_home}
 use Rattle.reading.specs.Verbatim.{nothing, opened_as, closes, kept, closed_with, all_blank, bytes_of, skips, blank_content, in_verbatim}
 use Rattle.reading.specs.Verbatim.{ended_at}
-use Rattle.reading.specs.Containers.{Along, along, by_itself, takes, span_with, closes_span, close_as, may_open, opens_or}
+use Rattle.reading.specs.Containers.{takes, span_with, closes_span, close_as, may_open, opens_or}
 use Rattle.reading.specs.Reading.{outside, by_place, on_token, step, steps, begun, lines, start, end_of, views, read}
 use Rattle.reading.specs.Draining.{flushed, touches, drained}
 use Rattle.reading.specs.Homes.{container_of, known, has_home, has_link, HomeBy, LinkBy, Homed, AllHomed}
@@ -219,19 +212,19 @@ module _ (x : Sheet) (labels : ℕ) where
     lone : (kind : ℕ) → Low kind → (h : Here) → Holds (put v kind h.from h.to s)
     lone kind l h f n = all-put _ _ _ (has-low kind l) (k f n)
 
-    opens-homed : (h : Here) (alone : ℕ) (o : Opens) → Low alone → Holds (opens_or v h alone o s)
+    opens-homed : (h : Here) (alone : ℕ) (o : Option Sort) → Low alone → Holds (opens_or v h alone o s)
     unfolding opens_or
-    opens-homed h alone opens.None l = lone alone l h
-    opens-homed h alone (opens.Some o) l = choose Holds (may_open v h s o) _ _ (λ e. lone (unclosed o) (unclosed-low o) h) (λ e. lone alone l h)
+    opens-homed h alone None l = lone alone l h
+    opens-homed h alone (Some o) l = choose Holds (may_open v h s o) _ _ (λ e. lone (unclosed o) (unclosed-low o) h) (λ e. lone alone l h)
 
-    span-homed : (h : Here) (image : Bool) (o : Opener) (os : List Opener) (c : Cursor) (t : Next) → Holds (closes_span v h image o c t (with_openers os s)).state
+    span-homed : (h : Here) (image : Bool) (o : Opener) (os : List Opener) (c : Cursor) (t : Option Token) → Holds (closes_span v h image o c t (with_openers os s)).state
     unfolding closes_span span_with
-    span-homed h image o os c next.None = lone str (omega arith) h
-    span-homed h image o os c (next.Some t) = go (takes (role_of t.kind))
+    span-homed h image o os c None = lone str (omega arith) h
+    span-homed h image o os c (Some t) = go (takes (role_of t.kind))
       where
-        go : (b : Along) → Holds (span_with v h image o c t.len b (with_openers os s)).state
-        go by_itself = lone str (omega arith) h
-        go (along inline) = λ f n. all-put _ _ _ has-str (lone str (omega arith) h f n)
+        go : (b : Option Bool) → Holds (span_with v h image o c t.len b (with_openers os s)).state
+        go None = lone str (omega arith) h
+        go (Some inline) = λ f n. all-put _ _ _ has-str (lone str (omega arith) h f n)
 
     closed-homed : (h : Here) → At h → (o : Opener) (os : List Opener) (d : DelimEventKind) → KindOk d → Holds (close_as x v h o d (with_openers os s)).state
     unfolding close_as KindOk LinkBy
@@ -271,10 +264,10 @@ module _ (x : Sheet) (labels : ℕ) where
 
   -- a token inside
   module _ (w : Verbatim) (v : View) (h : Here) (at m : ℕ) (s : State) (g : In Any x.text w at m s) (k : Holds s) where
-    closed_in : (c : Cursor) (f : Ahead) → Then v (closed_with v h c w f s)
+    closed_in : (c : Cursor) (f : Option ℕ) → Then v (closed_with v h c w f s)
     unfolding closed_with container_of known has_home has_link
-    closed_in c ahead.None z = λ f l. all-put _ _ _ (has-exit w s.queue s.openers g.inner (k f l)) (all-kept w s.queue (k f l))
-    closed_in c (ahead.Some n) z = λ f l.
+    closed_in c None z = λ f l. all-put _ _ _ (has-exit w s.queue s.openers g.inner (k f l)) (all-kept w s.queue (k f l))
+    closed_in c (Some n) z = λ f l.
         let home = in_text (v.base + (h.to + 2)) (v.base + (h.to + 2) + n) in
         let i = inner-amend w s.queue s.openers (enter raw_format) home (omega arith) (raw-wraps home) g.inner in
         let r = all-amend (becomes (enter raw_format) home) (λ e. has-text (enter raw_format) _ _ refl (omega arith) (omega arith)) w.event s.queue (k f l) in
@@ -296,18 +289,18 @@ module _ (x : Sheet) (labels : ℕ) where
 
   -- steps, at a line that lies within the text
   module _ (v : View) (m : ℕ) (shows : Shows x.text v) (long : v.base + length v.bytes ≤ length x.text) where
-    step-homed : (a : Turn) → a.state.refused ≡ refused.No → Held Any x.text v m 0 a → Holds a.state → Holds (step x v a).state
+    step-homed : (a : Turn) → a.state.refused ≡ None → Held Any x.text v m 0 a → Holds a.state → Holds (step x v a).state
     unfolding on_token by_place GoodBy
     step-homed a un held k = on (next_of v.bytes a.cursor).token (omega (arith, (step-on Any x.text x v m shows (λ i. tt) a un held).sound.place))
       where
-        by : (h : Here) → h.from ≡ a.cursor.pos → (t : Token) (w : Inside) → GoodBy Any x.text w (v.base + a.cursor.pos) (m + a.cursor.pos) a.state
+        by : (h : Here) → h.from ≡ a.cursor.pos → (t : Token) (w : Option Verbatim) → GoodBy Any x.text w (v.base + a.cursor.pos) (m + a.cursor.pos) a.state
             → Then v (by_place x v h t w a.state)
-        by h e t inside.No g = outside-homed v a.cursor.pos _ a.state g (omega (arith, held.sound.place)) k h e (role_of t.kind) (role-ok t.kind)
-        by h e t (inside.Verbatim w) g = in-homed w v h _ _ a.state g k x.rules t
+        by h e t None g = outside-homed v a.cursor.pos _ a.state g (omega (arith, held.sound.place)) k h e (role_of t.kind) (role-ok t.kind)
+        by h e t (Some w) g = in-homed w v h _ _ a.state g k x.rules t
 
-        on : (t : Next) → Then v (on_token x v a t (next_of v.bytes a.cursor).cursor)
-        on next.None = λ z. k
-        on (next.Some t) = by _ refl t a.state.inside (held.good un).good
+        on : (t : Option Token) → Then v (on_token x v a t (next_of v.bytes a.cursor).cursor)
+        on None = λ z. k
+        on (Some t) = by _ refl t a.state.inside (held.good un).good
 
     steps-homed : (n : ℕ) (a : Turn) → Held Any x.text v m 0 a → Holds a.state → Holds (steps n x v a).state
     unfolding steps
@@ -317,14 +310,14 @@ module _ (x : Sheet) (labels : ℕ) where
         (λ e. steps-homed n (step x v a) (step-on Any x.text x v m shows (λ i. tt) a e held) (step-homed a e held k))
 
   -- the end: an open verbatim gets its exit
-  ended-homed : (w : Inside) (b m : ℕ) (s : State) → GoodBy Any x.text w b m s → Holds s → Holds (ended_at b w s)
+  ended-homed : (w : Option Verbatim) (b m : ℕ) (s : State) → GoodBy Any x.text w b m s → Holds s → Holds (ended_at b w s)
   unfolding GoodBy ended_at
-  ended-homed inside.No b m s g k = k
-  ended-homed (inside.Verbatim w) b m s g k = λ f l. all-put _ _ _ (has-exit w s.queue s.openers g.inner (k f l)) (k f l)
+  ended-homed None b m s g k = k
+  ended-homed (Some w) b m s g k = λ f l. all-put _ _ _ (has-exit w s.queue s.openers g.inner (k f l)) (k f l)
 
   -- lines, and the end
   lines-homed : (ls : List Line) (at m : ℕ) (s : State) → Rising x.text at ls → Stood Any x.text x at m s → Holds s
-      → let r = lines x (views x.text ls) s in r.refused ≡ refused.No → Holds (ended_at (end_of ls at) r.inside r)
+      → let r = lines x (views x.text ls) s in r.refused ≡ None → Holds (ended_at (end_of ls at) r.inside r)
   unfolding Rising lines end_of
   lines-homed [] at m s r h k = λ e. ended-homed s.inside at m s (h.good e) k
   lines-homed (l ∷ ls) at m s r h k =
@@ -335,7 +328,7 @@ module _ (x : Sheet) (labels : ℕ) where
       (begun-held Any x.text x v at m s gap h) k)
 
 -- the events of a sheet that is read
-pub events-homed : (x : Sheet) (ls : List Line) → Rising x.text 0 ls → (lines x (views x.text ls) start).refused ≡ refused.No → (read x ls).fits ≡ true
+pub events-homed : (x : Sheet) (ls : List Line) → Rising x.text 0 ls → (lines x (views x.text ls) start).refused ≡ None → (read x ls).fits ≡ true
     → AllHomed (length x.text) (length (read x ls).labels) (events x ls)
 unfolding AllHomed
 events-homed x ls r e f =

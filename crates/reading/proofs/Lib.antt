@@ -7,6 +7,7 @@ pub mod Matching
 pub mod Queue
 pub mod Good
 pub mod Named
+pub mod Sameness
 pub mod Tables
 pub mod Ends
 pub mod Places

@@ -1,14 +1,12 @@
 -- One step closes at most one link: only the closing of a link counts one, and every other rule leaves the count as it was.
+use Rattle.std.specs.Prelude.{None, Option, Some}
+use Rattle.reading.specs.declared.Verbatim.{Verbatim}
 use Prim.Native.Nat.{suc, ◌≤◌}
 use mathlib.Core.Path.{◌≡◌, refl, ap}
 use native.Mathlib.Omega.{arith}
 use Rattle.lex.specs.declared.lex.Token.{Token}
-use Rattle.lex.specs.declared.lex.Next.{Next}
-use Rattle.lex.specs.declared.lex.Next.TheVariants as next
 use Rattle.lex.specs.declared.lex.Cursor.{Cursor}
 use Rattle.reading.specs.declared.Link.{Link}
-use Rattle.reading.specs.declared.Inside.{Inside}
-use Rattle.reading.specs.declared.Inside.TheVariants as inside
 use Rattle.reading.specs.Machine.{View, Sheet, State, Turn, Here}
 use Rattle.reading.specs.Tokens.{role_of}
 use Rattle.reading.specs.Verbatim.{in_verbatim}
@@ -24,16 +22,16 @@ as_many : (s : State) (a : Turn) → a.state.links ≡ s.links → Once s a
 as_many s a e = omega (arith, ap (λ (n : Link). n.0) e)
 
 module _ (x : Sheet) (v : View) where
-  by-links : (s : State) (h : Here) (t : Token) (w : Inside) → Once s (by_place x v h t w s)
+  by-links : (s : State) (h : Here) (t : Token) (w : Option Verbatim) → Once s (by_place x v h t w s)
   unfolding by_place close_as
-  by-links s h t inside.No =
+  by-links s h t None =
       ruled x x v s (λ a b. Once s a) (λ a k. as_many s a (ap (λ z. z.2) k)) (λ h o t os. omega arith) (λ h. omega arith) (λ p. refl) (λ h. omega arith) h (role_of t.kind)
-  by-links s h t (inside.Verbatim w) = as_many s (in_verbatim x.rules v h t w s) (ap (λ z. z.1) (in_kept v h s x.rules t w))
+  by-links s h t (Some w) = as_many s (in_verbatim x.rules v h t w s) (ap (λ z. z.1) (in_kept v h s x.rules t w))
 
-  on-links : (a : Turn) (t : Next) (c : Cursor) → Once a.state (on_token x v a t c)
+  on-links : (a : Turn) (t : Option Token) (c : Cursor) → Once a.state (on_token x v a t c)
   unfolding on_token
-  on-links a next.None c = omega arith
-  on-links a (next.Some t) c = by-links a.state (here_at a.cursor t c) t a.state.inside
+  on-links a None c = omega arith
+  on-links a (Some t) c = by-links a.state (here_at a.cursor t c) t a.state.inside
 
 pub links-step : (x : Sheet) (v : View) (a : Turn) → (step x v a).state.links.0 ≤ suc a.state.links.0
 links-step x v a = on-links x v a _ _

@@ -1,20 +1,21 @@
 -- Openers name events of the queue: in every state that the invariant holds of.
+use Rattle.std.specs.Prelude.{None, Option, Some}
 use Prim.Native.Nat.{ℕ, ◌≤◌, ◌<◌}
 use mathlib.Core.Path.{ap, ◌∙◌, subst}
 use mathlib.Core.List.{List, [], ◌∷◌, ◌++◌}
 use native.Mathlib.Omega.{arith}
 use lib.Dec.{eqb}
 use lib.ListN.{length, length-append, length-map}
+use Rattle.reading.specs.Closers.{same}
+use Rattle.reading.specs.declared.Closer.{Closer}
 use Rattle.reading.specs.declared.Event.{Event}
 use Rattle.reading.specs.declared.Opener.{Opener}
 use Rattle.reading.specs.declared.Verbatim.{Verbatim}
-use Rattle.reading.specs.declared.Inside.{Inside}
-use Rattle.reading.specs.declared.Inside.TheVariants as inside
 use Rattle.reading.specs.declared.DelimEventKind.{DelimEventKind}
 use Rattle.reading.specs.declared.DelimEventKind.TheVariants as makes
 use Rattle.reading.specs.Machine.{State}
 use Rattle.reading.specs.Tokens.{closed_by, closing_of}
-use Rattle.reading.specs.Containers.{seek}
+use Rattle.reading.specs.Containers.{seek, seek_mark}
 use Rattle.reading.specs.Naming.{Names, Named}
 use Rattle.reading.specs.Walked.{Walk, neither, walk_of}
 use Rattle.reading.proofs.Choose.{choose}
@@ -35,11 +36,16 @@ named_more [] n m l h = tt
 named_more (o ∷ os) n m l h = (names_more (closing_of o.sort) o n m l h.0, named_more os n m l h.1)
 
 -- fewer openers
-pub named-seek : (c : ℕ) (os : List Opener) (n : ℕ) → Named os n → Named (seek c os) n
+named-seek_mark : (c : Closer) (os : List Opener) (n : ℕ) → Named os n → Named (seek_mark c os) n
+unfolding seek_mark Named
+named-seek_mark c [] n h = h
+named-seek_mark c (o ∷ os) n h =
+    choose (λ (l : List Opener). Named l n) (same (closed_by o.sort) c) _ _ (λ e. h) (λ e. named-seek_mark c os n h.1)
+
+pub named-seek : (c : Option Closer) (os : List Opener) (n : ℕ) → Named os n → Named (seek c os) n
 unfolding seek Named
-named-seek c [] n h = h
-named-seek c (o ∷ os) n h =
-    choose (λ (l : List Opener). Named l n) (eqb (closed_by o.sort) c) _ _ (λ e. h) (λ e. named-seek c os n h.1)
+named-seek None os n h = tt
+named-seek (Some c) os n h = named-seek_mark c os n h
 
 -- where the queue parts at each opener
 top-named : (w : List Walk) (os : List Opener) → Parts w os → Named os (length w)
@@ -72,8 +78,8 @@ inner-named : (w : Verbatim) (q : List Event) (os : List Opener) → Inner w q o
 inner-named w q os h =
     named_more os (length h.pre) (length q) (omega (arith, inner-within w q os h, h.place)) (parts-named h.pre os h.rest)
 
-pub good-named : (Loose : ℕ → Type 0) (text : List ℕ) (w : Inside) (at n : ℕ) (s : State) → GoodBy Loose text w at n s
+pub good-named : (Loose : ℕ → Type 0) (text : List ℕ) (w : Option Verbatim) (at n : ℕ) (s : State) → GoodBy Loose text w at n s
     → Named s.openers (length s.queue)
 unfolding GoodBy
-good-named Loose text inside.No at n s g = parts-named s.queue s.openers g.parts
-good-named Loose text (inside.Verbatim w) at n s g = inner-named w s.queue s.openers g.inner
+good-named Loose text None at n s g = parts-named s.queue s.openers g.parts
+good-named Loose text (Some w) at n s g = inner-named w s.queue s.openers g.inner

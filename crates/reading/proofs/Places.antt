@@ -1,4 +1,5 @@
 -- Where a token stands, and the cursor behind it.
+use Rattle.std.specs.Prelude.{Some}
 use Prim.Native.Nat.{ℕ, ◌+◌, ◌≤◌, ◌<◌}
 use mathlib.Core.Path.{◌≡◌, sym, ap, ◌∙◌, subst}
 use mathlib.Core.List.{List}
@@ -6,7 +7,6 @@ use mathlib.Core.Bool.{Bool}
 use native.Mathlib.Omega.{arith}
 use lib.ListN.{length, length-drop}
 use Rattle.lex.specs.declared.lex.Token.{Token}
-use Rattle.lex.specs.declared.lex.Next.TheVariants as next
 use Rattle.lex.specs.declared.lex.Cursor.{Cursor}
 use Rattle.lex.specs.declared.lex.Lexed.{Lexed}
 use Rattle.lex.specs.Lexer.{next_of, peek_of}
@@ -24,7 +24,7 @@ pub record HereOk (v : View) (h : Here) : Type 0 where
   pub place : h.cursor.pos ≡ h.to
   pub sound : Sound v.bytes h.cursor
 
-pub here-ok : (v : View) (c : Cursor) (t : Token) → Sound v.bytes c → (next_of v.bytes c).token ≡ next.Some t
+pub here-ok : (v : View) (c : Cursor) (t : Token) → Sound v.bytes c → (next_of v.bytes c).token ≡ Some t
     → HereOk v (here_at c t (next_of v.bytes c).cursor)
 here-ok v c t s e =
     let st = next-stepped v.bytes c in
@@ -52,7 +52,7 @@ pub record Taken (src : List ℕ) (c : Cursor) (n : ℕ) : Type 0 where
   pub place : (next_of src c).cursor.pos ≡ c.pos + n
   pub sound : Sound src (next_of src c).cursor
 
-pub peeked-taken : (src : List ℕ) (c : Cursor) (t : Token) → Sound src c → c.next ≡ next.Some t → Taken src c t.len
+pub peeked-taken : (src : List ℕ) (c : Cursor) (t : Token) → Sound src c → c.next ≡ Some t → Taken src c t.len
 peeked-taken src c t s e =
     let z = s.held t e in
     let fit : c.pos + t.len ≤ length src = omega (arith, z.within, z.some, length-drop c.pos src) in

@@ -1,4 +1,5 @@
 -- What the changes of the queue are to the walk: events put, one changed, the last shortened, a cut; and what each closing leaves.
+use Rattle.std.specs.Prelude.{Option, Some, None}
 use Prim.Native.Nat.{ℕ, zero, suc, ◌+◌, ◌-◌, ◌≤◌, ◌<◌}
 use mathlib.Core.Path.{◌≡◌, refl, sym, ap, ◌∙◌, subst}
 use mathlib.Core.List.{List, [], ◌∷◌, ◌++◌, map, append_assoc, map-append}
@@ -6,6 +7,8 @@ use native.Mathlib.Omega.{arith}
 use lib.Dec.{eqb}
 use lib.ListN.{length, get_or, take, set, length-append}
 use lib.Seq.{take-append-add, set-append_seam, get_or_at}
+use Rattle.reading.specs.Closers.{same}
+use Rattle.reading.specs.declared.Closer.{Closer}
 use Rattle.reading.specs.declared.Event.{Event}
 use Rattle.reading.specs.declared.Opener.{Opener}
 use Rattle.reading.specs.declared.Verbatim.{Verbatim}
@@ -15,7 +18,7 @@ use Rattle.reading.specs.declared.Home.{Home}
 use Rattle.reading.specs.Events.{home_of, becomes, shorter, exit_of}
 use Rattle.reading.specs.Machine.{amend, amend_last}
 use Rattle.reading.specs.Tokens.{closed_by, closing_of}
-use Rattle.reading.specs.Containers.{seek}
+use Rattle.reading.specs.Containers.{seek, seek_mark}
 use Rattle.reading.specs.Walked.{Walk, neither, walk_by, walk_of}
 use Rattle.reading.proofs.Choose.{choose}
 use Rattle.reading.proofs.Matching.{still-nil, Wraps, Plain, plain_still, plain-append, plain-take}
@@ -45,17 +48,31 @@ walks-amend f z h zero (e ∷ q) = ap (λ (x : Walk). x ∷ walks q) (h e)
 walks-amend f z h (suc i) (e ∷ q) = ap (λ (l : List Walk). walk_of e ∷ l) (walks-amend f z h i q)
 
 -- what is sought
-pub parts-seek : (c : ℕ) (w : List Walk) (os : List Opener) → Parts w os → Parts w (seek c os)
-unfolding seek
-parts-seek c w [] p = p
-parts-seek c w (o ∷ os) p =
-    choose (Parts w) (eqb (closed_by o.sort) c) _ _ (λ e. p) (λ e. parts-seek c w os (parts-drop w o os p))
+parts-none : (w : List Walk) (os : List Opener) → Parts w os → Parts w []
+parts-none w [] p = p
+parts-none w (o ∷ os) p = parts-none w os (parts-drop w o os p)
 
-pub seek-few : (c : ℕ) (os : List Opener) → length (seek c os) ≤ length os
+parts-seek_mark : (c : Closer) (w : List Walk) (os : List Opener) → Parts w os → Parts w (seek_mark c os)
+unfolding seek_mark
+parts-seek_mark c w [] p = p
+parts-seek_mark c w (o ∷ os) p =
+    choose (Parts w) (same (closed_by o.sort) c) _ _ (λ e. p) (λ e. parts-seek_mark c w os (parts-drop w o os p))
+
+pub parts-seek : (c : Option Closer) (w : List Walk) (os : List Opener) → Parts w os → Parts w (seek c os)
 unfolding seek
-seek-few c [] = omega arith
-seek-few c (o ∷ os) =
-    choose (λ (l : List Opener). length l ≤ suc (length os)) (eqb (closed_by o.sort) c) _ _ (λ e. omega arith) (λ e. omega (arith, seek-few c os))
+parts-seek None w os p = parts-none w os p
+parts-seek (Some c) w os p = parts-seek_mark c w os p
+
+seek_mark-few : (c : Closer) (os : List Opener) → length (seek_mark c os) ≤ length os
+unfolding seek_mark
+seek_mark-few c [] = omega arith
+seek_mark-few c (o ∷ os) =
+    choose (λ (l : List Opener). length l ≤ suc (length os)) (same (closed_by o.sort) c) _ _ (λ e. omega arith) (λ e. omega (arith, seek_mark-few c os))
+
+pub seek-few : (c : Option Closer) (os : List Opener) → length (seek c os) ≤ length os
+unfolding seek
+seek-few None os = omega arith
+seek-few (Some c) os = seek_mark-few c os
 
 -- a pair: the opener's event becomes x, and y is put
 pub top-close : (w : List Walk) (os : List Opener) (n : ℕ) (x y : Walk) → Top (λ (p : List Walk). Parts p os) w n → Wraps x y

@@ -1,18 +1,15 @@
 -- What the rules take out of the queue, or never put there: the spans that are missing in the list. `Dropping` shows that they are the dropped blanks.
+use Rattle.std.specs.Prelude.{None, Option, Some}
 use Prim.Native.Nat.{ℕ, zero, suc, ◌+◌}
 use mathlib.Core.List.{List, [], ◌∷◌, ◌++◌, map}
 use mathlib.Core.Bool.{true, false, ◌&&◌}
 use lib.ListN.{length, drop}
 use Rattle.lex.specs.declared.lex.Token.{Token}
-use Rattle.lex.specs.declared.lex.Next.{Next}
-use Rattle.lex.specs.declared.lex.Next.TheVariants as next
 use Rattle.lex.specs.declared.lex.Cursor.{Cursor}
 use Rattle.lex.specs.Lexer.{next_of, peek_of}
 use Rattle.reading.specs.declared.Event.{Event}
 use Rattle.reading.specs.declared.Line.{Line}
 use Rattle.reading.specs.declared.Verbatim.{Verbatim}
-use Rattle.reading.specs.declared.Inside.{Inside}
-use Rattle.reading.specs.declared.Inside.TheVariants as inside
 use Rattle.reading.specs.Machine.{View, Sheet, State, Turn, Here}
 use Rattle.reading.specs.Verbatim.{closes, all_blank, bytes_of, skips}
 use Rattle.reading.specs.Reading.{here_at, step, unless, begun, line, views, start}
@@ -37,13 +34,13 @@ removes_at v h t w s =
     ]
 
 -- as the steps go
-unfoldable pub removes_in : View → Here → Token → Inside → State → List Line
-removes_in v h t inside.No s = []
-removes_in v h t (inside.Verbatim w) s = removes_at v h t w s
+unfoldable pub removes_in : View → Here → Token → Option Verbatim → State → List Line
+removes_in v h t None s = []
+removes_in v h t (Some w) s = removes_at v h t w s
 
-unfoldable pub removes_on : View → Turn → Next → Cursor → List Line
-removes_on v a next.None c = []
-removes_on v a (next.Some t) c = removes_in v (here_at a.cursor t c) t a.state.inside a.state
+unfoldable pub removes_on : View → Turn → Option Token → Cursor → List Line
+removes_on v a None c = []
+removes_on v a (Some t) c = removes_in v (here_at a.cursor t c) t a.state.inside a.state
 
 unfoldable pub step_removes : View → Turn → List Line
 step_removes v a = let l = next_of v.bytes a.cursor in removes_on v a l.token l.cursor

@@ -1,5 +1,9 @@
 -- The rules of a token, gone through once, for two sheets side by side (`by-rule`). All but three leave four sides of the state as they were: the refusal, the
 -- open verbatim, the count of links and whether all labels fitted. The three are a link that closes, a run that opens a verbatim, an attribute block (`ruled`).
+use Rattle.std.specs.Prelude.{None, Option, Some}
+use Rattle.reading.specs.declared.Closer.{Closer}
+use Rattle.reading.specs.declared.Sort.{Sort}
+use Rattle.reading.specs.declared.Place.{Place}
 use Prim.Native.Nat.{ℕ, ◌+◌, ◌-◌, ◌≤◌}
 use mathlib.Core.Path.{◌≡◌, refl, subst}
 use mathlib.Core.List.{List, [], ◌∷◌}
@@ -8,25 +12,17 @@ use native.Mathlib.Omega.{arith}
 use lib.Dec.{leb, ltb}
 use lib.ListN.{drop}
 use Rattle.lex.specs.declared.lex.Token.{Token}
-use Rattle.lex.specs.declared.lex.Next.{Next}
-use Rattle.lex.specs.declared.lex.Next.TheVariants as next
 use Rattle.lex.specs.declared.lex.Cursor.{Cursor}
 use Rattle.lex.specs.declared.lex.Lexed.{Lexed}
 use Rattle.lex.specs.Lexer.{peek_of}
-use Rattle.scan.specs.declared.Ahead.{Ahead}
-use Rattle.scan.specs.declared.Ahead.TheVariants as ahead
 use Rattle.scan.specs.Scans.{autolink_of, symbol_of}
 use Rattle.reading.specs.declared.Link.{Link}
 use Rattle.reading.specs.declared.Opener.{Opener}
-use Rattle.reading.specs.declared.Opens.{Opens}
-use Rattle.reading.specs.declared.Opens.TheVariants as opens
 use Rattle.reading.specs.declared.Marks.{Marks}
 use Rattle.reading.specs.declared.Role.{Role}
 use Rattle.reading.specs.declared.Role.TheVariants as role
 use Rattle.reading.specs.declared.Target.{Target}
 use Rattle.reading.specs.declared.Verbatim.{Verbatim}
-use Rattle.reading.specs.declared.Inside.{Inside}
-use Rattle.reading.specs.declared.Refused.{Refused}
 use Rattle.reading.specs.declared.DelimEventKind.{DelimEventKind}
 use Rattle.reading.specs.declared.DelimEventKind.TheVariants as makes
 use Rattle.dash.specs.Dashes.{dashes_of}
@@ -35,16 +31,16 @@ use Rattle.reading.specs.Machine.{View, Rules, Sheet, State, Turn, Here, puts, n
 use Rattle.reading.specs.Atoms.{dashes, dots, autolinked, named}
 use Rattle.reading.specs.Tokens.{role_of, is_caret, closing_of, plain, bracket}
 use Rattle.reading.specs.Verbatim.{opens_verbatim, closes, closed_with, all_blank, bytes_of, skips, blank_content, in_verbatim}
-use Rattle.reading.specs.Containers.{Along, along, by_itself, seek, may_close, takes, span_with, closes_span, close_as, may_open, opens_or}
+use Rattle.reading.specs.Containers.{seek, may_close, takes, span_with, closes_span, close_as, may_open, opens_or}
 use Rattle.reading.specs.Containers.{tried, container}
 use Rattle.reading.specs.Reading.{refuse, angle, colon, noted, bracketed, braced, outside}
 use Rattle.reading.proofs.Choose.{choose, choose₂}
 
 -- the four sides, and, inside a verbatim, those besides it
-abbrev sides : State → Refused × Inside × Link × Bool
+abbrev sides : State → Option Place × Option Verbatim × Link × Bool
 sides s = (s.refused, s.inside, s.links, s.fits)
 
-abbrev others : State → Refused × Link × Bool
+abbrev others : State → Option Place × Link × Bool
 others s = (s.refused, s.links, s.fits)
 
 abbrev pub Kept : State → Turn → Type 0
@@ -54,10 +50,10 @@ abbrev pub KeptBut : State → Turn → Type 0
 KeptBut s a = others a.state ≡ others s
 
 module _ (v : View) (h : Here) (s : State) where
-  closed-kept : (c : Cursor) (w : Verbatim) (f : Ahead) → KeptBut s (closed_with v h c w f s)
+  closed-kept : (c : Cursor) (w : Verbatim) (f : Option ℕ) → KeptBut s (closed_with v h c w f s)
   unfolding closed_with
-  closed-kept c w ahead.None = refl
-  closed-kept c w (ahead.Some n) = refl
+  closed-kept c w None = refl
+  closed-kept c w (Some n) = refl
 
   blank-kept : (w : Verbatim) → KeptBut s (blank_content v h w s)
   unfolding blank_content
@@ -72,19 +68,19 @@ module _ (v : View) (h : Here) (s : State) where
       choose (KeptBut s) (closes w h t) _ _ (λ e. closed-kept _ w _)
       (λ e. choose (KeptBut s) (all_blank (bytes_of v h)) _ _ (λ y. blank-kept w) (λ y. refl))
 
-  opens_kept : (alone : ℕ) (o : Opens) → sides (opens_or v h alone o s) ≡ sides s
+  opens_kept : (alone : ℕ) (o : Option Sort) → sides (opens_or v h alone o s) ≡ sides s
   unfolding opens_or
-  opens_kept alone opens.None = refl
-  opens_kept alone (opens.Some o) = choose (λ (t : State). sides t ≡ sides s) (may_open v h s o) _ _ (λ e. refl) (λ e. refl)
+  opens_kept alone None = refl
+  opens_kept alone (Some o) = choose (λ (t : State). sides t ≡ sides s) (may_open v h s o) _ _ (λ e. refl) (λ e. refl)
 
-  span-kept : (image : Bool) (o : Opener) (c : Cursor) (t : Next) → Kept s (closes_span v h image o c t s)
+  span-kept : (image : Bool) (o : Opener) (c : Cursor) (t : Option Token) → Kept s (closes_span v h image o c t s)
   unfolding closes_span span_with
-  span-kept image o c next.None = refl
-  span-kept image o c (next.Some t) = go (takes (role_of t.kind))
+  span-kept image o c None = refl
+  span-kept image o c (Some t) = go (takes (role_of t.kind))
     where
-      go : (b : Along) → Kept s (span_with v h image o c t.len b s)
-      go by_itself = refl
-      go (along inline) = refl
+      go : (b : Option Bool) → Kept s (span_with v h image o c t.len b s)
+      go None = refl
+      go (Some inline) = refl
 
 -- a brace at which a block stands in both sheets, or in neither
 by-brace : (x y : Sheet) (v : View) (s : State) (P : Turn → Turn → Type 0) (h : Here) → x.block (v.base + h.from) ≡ y.block (v.base + h.from)
@@ -106,7 +102,7 @@ module _ (x y : Sheet) (v : View) (s : State) (P : Turn → Turn → Type 0) (At
     (as-str : Ok (role.Other (plain str)))
     (as-bracket : Ok (role.Other bracket))
     (alone : (h : Here) → At h → (m : Marks) → Ok (role.Other m) → let a : Turn = record { cursor = h.cursor; state = opens_or v h m.alone m.opens s } in P a a)
-    (closes : (h : Here) → At h → (c : ℕ) (o : Opener) (os : List Opener) → seek c s.openers ≡ o ∷ os
+    (closes : (h : Here) → At h → (c : Option Closer) (o : Opener) (os : List Opener) → seek c s.openers ≡ o ∷ os
     → P (close_as x v h o (closing_of o.sort) (with_openers os s)) (close_as y v h o (closing_of o.sort) (with_openers os s)))
     (links : (h : Here) → At h → (n : ℕ) → P (autolinked v h n s) (autolinked v h n s))
     (names : (h : Here) → At h → (kind n : ℕ) → symbol ≤ kind → kind ≤ footnote → P (named kind v h n s) (named kind v h n s))
@@ -126,25 +122,25 @@ module _ (x y : Sheet) (v : View) (s : State) (P : Turn → Turn → Type 0) (At
   lone : (h : Here) → At h → P (container x v h (plain str) s) (container y v h (plain str) s)
   lone h e = contained h e (plain str) as-str
 
-  by-angle : (h : Here) → At h → (f : Ahead) → P (angle x v h f s) (angle y v h f s)
+  by-angle : (h : Here) → At h → (f : Option ℕ) → P (angle x v h f s) (angle y v h f s)
   unfolding angle
-  by-angle h e (ahead.Some n) = links h e n
-  by-angle h e ahead.None = lone h e
+  by-angle h e (Some n) = links h e n
+  by-angle h e None = lone h e
 
-  by-colon : (h : Here) → At h → (f : Ahead) → P (colon x v h f s) (colon y v h f s)
+  by-colon : (h : Here) → At h → (f : Option ℕ) → P (colon x v h f s) (colon y v h f s)
   unfolding colon
-  by-colon h e (ahead.Some n) = names h e symbol n (omega arith) (omega arith)
-  by-colon h e ahead.None = lone h e
+  by-colon h e (Some n) = names h e symbol n (omega arith) (omega arith)
+  by-colon h e None = lone h e
 
-  by-note : (h : Here) → At h → (f : Ahead) → P (noted x v h f s) (noted y v h f s)
+  by-note : (h : Here) → At h → (f : Option ℕ) → P (noted x v h f s) (noted y v h f s)
   unfolding noted
-  by-note h e (ahead.Some n) = names h e footnote n (omega arith) (omega arith)
-  by-note h e ahead.None = contained h e bracket as-bracket
+  by-note h e (Some n) = names h e footnote n (omega arith) (omega arith)
+  by-note h e None = contained h e bracket as-bracket
 
-  by-bracket : (h : Here) → At h → (p : Lexed) (t : Next) → P (bracketed x v h p t s) (bracketed y v h p t s)
+  by-bracket : (h : Here) → At h → (p : Lexed) (t : Option Token) → P (bracketed x v h p t s) (bracketed y v h p t s)
   unfolding bracketed
-  by-bracket h e p next.None = contained _ (moves h h.to p.cursor (omega arith) e) bracket as-bracket
-  by-bracket h e p (next.Some t) = choose₂ P (is_caret (role_of t.kind)) _ _ _ _
+  by-bracket h e p None = contained _ (moves h h.to p.cursor (omega arith) e) bracket as-bracket
+  by-bracket h e p (Some t) = choose₂ P (is_caret (role_of t.kind)) _ _ _ _
       (λ z. by-note _ (moves h (h.to + t.len) _ (omega arith) e) _)
       (λ z. contained _ (moves h h.to p.cursor (omega arith) e) bracket as-bracket)
 
@@ -174,7 +170,7 @@ module _ (x y : Sheet) (v : View) (s : State) (P : Turn → Turn → Type 0) (At
 module _ (x y : Sheet) (v : View) (s : State) (P : Turn → Turn → Type 0) (At : Here → Type 0)
     (moves : (h : Here) (j : ℕ) (c : Cursor) → h.to ≤ j → At h → At (record { from = h.from; to = j; cursor = c }))
     (alone : (h : Here) → At h → (m : Marks) → let a : Turn = record { cursor = h.cursor; state = opens_or v h m.alone m.opens s } in P a a)
-    (closes : (h : Here) → At h → (c : ℕ) (o : Opener) (os : List Opener) → seek c s.openers ≡ o ∷ os
+    (closes : (h : Here) → At h → (c : Option Closer) (o : Opener) (os : List Opener) → seek c s.openers ≡ o ∷ os
     → P (close_as x v h o (closing_of o.sort) (with_openers os s)) (close_as y v h o (closing_of o.sort) (with_openers os s)))
     (links : (h : Here) → At h → (n : ℕ) → P (autolinked v h n s) (autolinked v h n s))
     (names : (h : Here) → At h → (kind n : ℕ) → P (named kind v h n s) (named kind v h n s))

@@ -1,4 +1,5 @@
 -- Accepted scans, dashes and dots: the invariant behind them.
+use Rattle.std.specs.Prelude.{None}
 use Prim.Native.Nat.{ℕ, zero, suc, ◌+◌, ◌-◌, ◌*◌, ◌≤◌, ◌<◌}
 use mathlib.Core.Path.{◌≡◌, refl, ap, subst}
 use mathlib.Core.List.{List, [], ◌∷◌, ◌++◌, map-append}
@@ -10,7 +11,6 @@ use Rattle.lex.proofs.Laws.{fresh-sound}
 use Rattle.dash.specs.Dashes.{dashes_of, dots_of}
 use Rattle.dash.proofs.Splits.{dashes-whole, dots-whole}
 use Rattle.reading.specs.declared.Event.{Event}
-use Rattle.reading.specs.declared.Inside.TheVariants as inside
 use Rattle.reading.specs.Events.{nowhere, in_text, str, ellipsis, endash, emdash}
 use Rattle.reading.specs.Machine.{View, State, Here, puts, no_str}
 use Rattle.reading.specs.Atoms.{row, dashes, dots, autolinked, named}
@@ -38,7 +38,7 @@ module _ (Loose : ℕ → Type 0) (text : List ℕ) where
   row-still kind w zero at l = still-nil
   row-still kind w (suc n) at l = rw (walk-neither Loose text kind nowhere l) (still-neither (walks (row kind w n (at + w))) (row-still kind w n (at + w) l))
 
-  module _ (v : View) (m : ℕ) (h : Here) (k : HereOk v h) (s : State) (no : s.inside ≡ inside.No) (g : Out Loose text (v.base + h.from) (m + h.from) s) where
+  module _ (v : View) (m : ℕ) (h : Here) (k : HereOk v h) (s : State) (no : s.inside ≡ None) (g : Out Loose text (v.base + h.from) (m + h.from) s) where
     -- hyphens, two and more
     pub dashes-fine : 2 ≤ h.to - h.from
         → Fine Loose text v m (suc h.from) (record { cursor = h.cursor; state = puts (dashes (dashes_of (h.to - h.from)) (v.base + h.from)) no_str s })

@@ -1,4 +1,6 @@
 -- One step keeps the invariant, and takes at least a byte; only at the line's end does it take none. The one case analysis over the rules.
+use Rattle.std.specs.Prelude.{None, Option, Some}
+use Rattle.reading.specs.declared.Verbatim.{Verbatim}
 use Prim.Native.Nat.{ℕ, suc, ◌+◌, ◌-◌, ◌≤◌}
 use mathlib.Core.Path.{◌≡◌, refl, sym, ap, ◌∙◌}
 use mathlib.Core.List.{List}
@@ -10,24 +12,16 @@ use lib.Dec.{leb, ltb}
 use lib.ListN.{length, get_or, drop}
 use Rattle.classes.specs.Classes.{blank}
 use Rattle.lex.specs.declared.lex.Token.{Token}
-use Rattle.lex.specs.declared.lex.Next.{Next}
-use Rattle.lex.specs.declared.lex.Next.TheVariants as next
 use Rattle.lex.specs.declared.lex.Cursor.{Cursor}
 use Rattle.lex.specs.declared.lex.Lexed.{Lexed}
 use Rattle.lex.specs.Lexer.{next_of, peek_of}
 use Rattle.lex.proofs.Laws.{Sound, next-sounded, peek-kept}
-use Rattle.scan.specs.declared.Ahead.{Ahead}
-use Rattle.scan.specs.declared.Ahead.TheVariants as ahead
 use Rattle.scan.specs.Scans.{autolink_of, symbol_of, footnote_of}
 use Rattle.scan.proofs.Laws.{autolink-some, autolink-long, symbol-some, footnote-some}
 use Rattle.reading.specs.declared.Place.{Place}
 use Rattle.reading.specs.declared.Marks.{Marks}
 use Rattle.reading.specs.declared.Role.{Role}
 use Rattle.reading.specs.declared.Role.TheVariants as role
-use Rattle.reading.specs.declared.Inside.{Inside}
-use Rattle.reading.specs.declared.Inside.TheVariants as inside
-use Rattle.reading.specs.declared.Refused.{Refused}
-use Rattle.reading.specs.declared.Refused.TheVariants as refused
 use Rattle.reading.specs.Events.{str, symbol, footnote}
 use Rattle.reading.specs.Machine.{View, Sheet, State, Turn, Here}
 use Rattle.reading.specs.Tokens.{role_of, is_caret, plain, bracket}
@@ -48,22 +42,22 @@ pub record Held (Loose : ℕ → Type 0) (text : List ℕ) (v : View) (m lo : �
   pub sound : Sound v.bytes a.cursor
   pub few : length a.state.queue ≤ m + a.cursor.pos
   pub opens : length a.state.openers ≤ m + a.cursor.pos
-  pub good : a.state.refused ≡ refused.No → Fine Loose text v m lo a
+  pub good : a.state.refused ≡ None → Fine Loose text v m lo a
 
-pub met : (p : Place) → refused.At p ≡ refused.No → ⊥
+pub met : (p : Place) → Some p ≡ None → ⊥
 met p e = let z : ◌≡◌ {A = ℕ} 0 1 = cc in omega arith
 
 -- what holds of a refused turn and of any other holds of the one that is taken
-pub either : {A : Type 0} (P : A → Type 0) (r : Refused) (x y : A) → ((p : Place) → r ≡ refused.At p → P x) → (r ≡ refused.No → P y) → P (unless r x y)
+pub either : {A : Type 0} (P : A → Type 0) (r : Option Place) (x y : A) → ((p : Place) → r ≡ Some p → P x) → (r ≡ None → P y) → P (unless r x y)
 unfolding unless
-either P (refused.At p) x y f g = f p refl
-either P refused.No x y f g = g refl
+either P (Some p) x y f g = f p refl
+either P None x y f g = g refl
 
-pub either₂ : {A B : Type 0} (P : A → B → Type 0) (r : Refused) (x y : A) (u w : B) → ((p : Place) → r ≡ refused.At p → P x u)
-    → (r ≡ refused.No → P y w) → P (unless r x y) (unless r u w)
+pub either₂ : {A B : Type 0} (P : A → B → Type 0) (r : Option Place) (x y : A) (u w : B) → ((p : Place) → r ≡ Some p → P x u)
+    → (r ≡ None → P y w) → P (unless r x y) (unless r u w)
 unfolding unless
-either₂ P (refused.At p) x y u w f g = f p refl
-either₂ P refused.No x y u w f g = g refl
+either₂ P (Some p) x y u w f g = f p refl
+either₂ P None x y u w f g = g refl
 
 module _ (Loose : ℕ → Type 0) (text : List ℕ) (x : Sheet) (v : View) (m : ℕ) where
   held : (lo : ℕ) (a : Turn) → Fine Loose text v m lo a → Held Loose text v m lo a
@@ -71,7 +65,7 @@ module _ (Loose : ℕ → Type 0) (text : List ℕ) (x : Sheet) (v : View) (m : 
       let b = good-few Loose text a.state.inside _ _ a.state f.good in
       record { sound = f.sound; few = b.0; opens = b.1; good = λ e. f }
 
-  module _ (s : State) (no : s.inside ≡ inside.No) (i : ℕ) (g : Out Loose text (v.base + i) (m + i) s) where
+  module _ (s : State) (no : s.inside ≡ None) (i : ℕ) (g : Out Loose text (v.base + i) (m + i) s) where
     -- scans, at a token that begins at the i-th byte
     module _ (j : ℕ) (c : Cursor) (k : HereOk v (record { from = i; to = j; cursor = c })) where
       abbrev h : Here
@@ -83,21 +77,21 @@ module _ (Loose : ℕ → Type 0) (text : List ℕ) (x : Sheet) (v : View) (m : 
       str-fine : Fine Loose text v m (suc i) (container x v h (plain str) s)
       str-fine = contained (plain str) (plain_ok str (omega arith))
 
-      angle-fine : (f : Ahead) → autolink_of (drop j v.bytes) ≡ f → Fine Loose text v m (suc i) (angle x v h f s)
+      angle-fine : (f : Option ℕ) → autolink_of (drop j v.bytes) ≡ f → Fine Loose text v m (suc i) (angle x v h f s)
       unfolding angle
-      angle-fine (ahead.Some n) e =
+      angle-fine (Some n) e =
           autolinked-fine Loose text v m h k s no g n (autolink-some (drop j v.bytes) n e).within (autolink-long (drop j v.bytes) n e)
-      angle-fine ahead.None e = str-fine
+      angle-fine None e = str-fine
 
-      colon-fine : (f : Ahead) → symbol_of (drop j v.bytes) ≡ f → Fine Loose text v m (suc i) (colon x v h f s)
+      colon-fine : (f : Option ℕ) → symbol_of (drop j v.bytes) ≡ f → Fine Loose text v m (suc i) (colon x v h f s)
       unfolding colon
-      colon-fine (ahead.Some n) e = named-fine Loose text v m h k s no g n (symbol-some (drop j v.bytes) n e).within symbol (omega arith)
-      colon-fine ahead.None e = str-fine
+      colon-fine (Some n) e = named-fine Loose text v m h k s no g n (symbol-some (drop j v.bytes) n e).within symbol (omega arith)
+      colon-fine None e = str-fine
 
-      noted-fine : (f : Ahead) → footnote_of (drop j v.bytes) ≡ f → Fine Loose text v m (suc i) (noted x v h f s)
+      noted-fine : (f : Option ℕ) → footnote_of (drop j v.bytes) ≡ f → Fine Loose text v m (suc i) (noted x v h f s)
       unfolding noted
-      noted-fine (ahead.Some n) e = named-fine Loose text v m h k s no g n (footnote-some (drop j v.bytes) n e).within footnote (omega arith)
-      noted-fine ahead.None e = contained bracket bracket-ok
+      noted-fine (Some n) e = named-fine Loose text v m h k s no g n (footnote-some (drop j v.bytes) n e).within footnote (omega arith)
+      noted-fine None e = contained bracket bracket-ok
 
     module _ (j : ℕ) (c : Cursor) (k : HereOk v (record { from = i; to = j; cursor = c })) where
       abbrev now : Here
@@ -116,10 +110,10 @@ module _ (Loose : ℕ → Type 0) (text : List ℕ) (x : Sheet) (v : View) (m : 
       here-there : HereOk v (record { from = i; to = j; cursor = ahead_of.cursor })
       here-there = here-with v now ahead_of.cursor k place-there sound-there
 
-      bracketed-fine : (t : Next) → ahead_of.token ≡ t → Fine Loose text v m (suc i) (bracketed x v now ahead_of t s)
+      bracketed-fine : (t : Option Token) → ahead_of.token ≡ t → Fine Loose text v m (suc i) (bracketed x v now ahead_of t s)
       unfolding bracketed
-      bracketed-fine next.None e = contained j ahead_of.cursor here-there bracket bracket-ok
-      bracketed-fine (next.Some t) e =
+      bracketed-fine None e = contained j ahead_of.cursor here-there bracket bracket-ok
+      bracketed-fine (Some t) e =
           choose (Fine Loose text v m (suc i)) (is_caret (role_of t.kind)) _ _
           (λ c. noted-fine (j + t.len) behind both (footnote_of (drop (j + t.len) v.bytes)) refl)
           (λ c. contained j ahead_of.cursor here-there bracket bracket-ok)
@@ -169,7 +163,7 @@ module _ (Loose : ℕ → Type 0) (text : List ℕ) (x : Sheet) (v : View) (m : 
       outside-held (role.Other mk) ok = held (suc i) _ (contained j c k mk ok)
 
   -- of a refused turn only the bounds are claimed
-  pub held-refused : (lo hi : ℕ) (a : Turn) (p : Place) → a.state.refused ≡ refused.At p → Held Loose text v m lo a → Held Loose text v m hi a
+  pub held-refused : (lo hi : ℕ) (a : Turn) (p : Place) → a.state.refused ≡ Some p → Held Loose text v m lo a → Held Loose text v m hi a
   held-refused lo hi a p e h = record { sound = h.sound; few = h.few; opens = h.opens; good = λ z. absurd (met p (sym e ∙ z)) }
 
   -- another bound
@@ -179,36 +173,36 @@ module _ (Loose : ℕ → Type 0) (text : List ℕ) (x : Sheet) (v : View) (m : 
 
   module _ (shows : Shows text v) (a : Turn) (so : Sound v.bytes a.cursor) where
     module _ (g : Good Loose text (v.base + a.cursor.pos) (m + a.cursor.pos) a.state) (t : Token)
-        (e : (next_of v.bytes a.cursor).token ≡ next.Some t) where
+        (e : (next_of v.bytes a.cursor).token ≡ Some t) where
       abbrev there : Here
       there = here_at a.cursor t (next_of v.bytes a.cursor).cursor
 
       ok : HereOk v there
       ok = here-ok v a.cursor t so e
 
-      by-held : (w : Inside) → a.state.inside ≡ w → GoodBy Loose text w (v.base + a.cursor.pos) (m + a.cursor.pos) a.state
+      by-held : (w : Option Verbatim) → a.state.inside ≡ w → GoodBy Loose text w (v.base + a.cursor.pos) (m + a.cursor.pos) a.state
           → ((i : ℕ) → Of (removes_in v there t w a.state) i → Loose i)
           → Held Loose text v m (suc a.cursor.pos) (by_place x v there t w a.state)
       unfolding by_place GoodBy removes_in
-      by-held inside.No is o loose = outside-held a.state is a.cursor.pos o there.to there.cursor ok (role_of t.kind) (role-ok t.kind)
-      by-held (inside.Verbatim w) is o loose = held _ _ (in-fine Loose text w v shows m there ok a.state is o x.rules t loose)
+      by-held None is o loose = outside-held a.state is a.cursor.pos o there.to there.cursor ok (role_of t.kind) (role-ok t.kind)
+      by-held (Some w) is o loose = held _ _ (in-fine Loose text w v shows m there ok a.state is o x.rules t loose)
 
-      by-blank : (w : Inside) → a.state.inside ≡ w → GoodBy Loose text w (v.base + a.cursor.pos) (m + a.cursor.pos) a.state
+      by-blank : (w : Option Verbatim) → a.state.inside ≡ w → GoodBy Loose text w (v.base + a.cursor.pos) (m + a.cursor.pos) a.state
           → (i : ℕ) → Of (removes_in v there t w a.state) i → blank (get_or text i 0) ≡ true
       unfolding GoodBy removes_in Of
-      by-blank inside.No is o i d = absurd d
-      by-blank (inside.Verbatim w) is o i d = drops-blank Loose text w v shows m there ok a.state is o t i d
+      by-blank None is o i d = absurd d
+      by-blank (Some w) is o i d = drops-blank Loose text w v shows m there ok a.state is o t i d
 
     -- a step takes a byte at least, or the line is at its end
     abbrev Taken-on : ℕ → Turn → Type 0
     Taken-on lo b = Held Loose text v m (suc lo) b ⊎ Held Loose text v m (length v.bytes) b
 
     module _ (lo : ℕ) (hd : Held Loose text v m lo a) where
-      on-held : (un : a.state.refused ≡ refused.No) (t : Next) → (next_of v.bytes a.cursor).token ≡ t
+      on-held : (un : a.state.refused ≡ None) (t : Option Token) → (next_of v.bytes a.cursor).token ≡ t
           → ((i : ℕ) → Of (removes_on v a t (next_of v.bytes a.cursor).cursor) i → Loose i)
           → Taken-on lo (on_token x v a t (next_of v.bytes a.cursor).cursor)
       unfolding on_token removes_on
-      on-held un next.None e loose =
+      on-held un None e loose =
           let f = hd.good un in
           inr record {
             sound = so;
@@ -216,19 +210,19 @@ module _ (Loose : ℕ → Type 0) (text : List ℕ) (x : Sheet) (v : View) (m : 
             opens = hd.opens;
             good = λ z. record { sound = so; far = omega (arith, (next-sounded v.bytes a.cursor so).end e); good = f.good };
           }
-      on-held un (next.Some t) e loose =
+      on-held un (Some t) e loose =
           let f = hd.good un in
           inl (held-less (suc a.cursor.pos) (suc lo) _ (omega (arith, f.far)) (by-held f.good t e a.state.inside refl f.good loose))
 
-      pub step-held : a.state.refused ≡ refused.No → ((i : ℕ) → Of (step_removes v a) i → Loose i) → Taken-on lo (step x v a)
+      pub step-held : a.state.refused ≡ None → ((i : ℕ) → Of (step_removes v a) i → Loose i) → Taken-on lo (step x v a)
       unfolding step_removes
       step-held un loose = on-held un (next_of v.bytes a.cursor).token refl loose
 
-      pub step-blank : a.state.refused ≡ refused.No → (i : ℕ) → Of (step_removes v a) i → blank (get_or text i 0) ≡ true
+      pub step-blank : a.state.refused ≡ None → (i : ℕ) → Of (step_removes v a) i → blank (get_or text i 0) ≡ true
       unfolding step_removes removes_on Of
       step-blank un i d = on (next_of v.bytes a.cursor).token refl d
         where
-          on : (t : Next) → (next_of v.bytes a.cursor).token ≡ t
+          on : (t : Option Token) → (next_of v.bytes a.cursor).token ≡ t
               → Of (removes_on v a t (next_of v.bytes a.cursor).cursor) i → blank (get_or text i 0) ≡ true
-          on next.None e d = absurd d
-          on (next.Some t) e d = by-blank (hd.good un).good t e a.state.inside refl (hd.good un).good i d
+          on None e d = absurd d
+          on (Some t) e d = by-blank (hd.good un).good t e a.state.inside refl (hd.good un).good i d

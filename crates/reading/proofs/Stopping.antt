@@ -1,5 +1,7 @@
 -- Where no brace has been asked the reading stops at each (`unasked`). What it gives up to there is what the sheet gives, and behind the stop the sheet goes
 -- on, unless a block stands at the brace. So a line can be read from stop to stop, and each brace be asked where the reading stands.
+use Rattle.std.specs.Prelude.{None, Option, Some}
+use Rattle.reading.specs.declared.Verbatim.{Verbatim}
 use Prim.Native.Nat.{ℕ, zero, suc, ◌+◌, ◌-◌, ◌≤◌, ◌<◌}
 use mathlib.Core.Path.{◌≡◌, refl, sym, ap, ◌∙◌, subst}
 use mathlib.Core.List.{List}
@@ -8,15 +10,9 @@ use mathlib.Core.Logic.{◌⊎◌, inl, inr, ⊎_elim}
 use native.Mathlib.Omega.{arith}
 use lib.ListN.{length}
 use Rattle.lex.specs.declared.lex.Token.{Token}
-use Rattle.lex.specs.declared.lex.Next.{Next}
-use Rattle.lex.specs.declared.lex.Next.TheVariants as next
 use Rattle.lex.specs.Lexer.{next_of}
 use Rattle.lex.proofs.Laws.{Sound}
 use Rattle.reading.specs.declared.Place.{Place}
-use Rattle.reading.specs.declared.Refused.{Refused}
-use Rattle.reading.specs.declared.Refused.TheVariants as refused
-use Rattle.reading.specs.declared.Inside.{Inside}
-use Rattle.reading.specs.declared.Inside.TheVariants as inside
 use Rattle.reading.specs.Events.{place, str}
 use Rattle.reading.specs.Machine.{View, Sheet, State, Turn, Here, put}
 use Rattle.reading.specs.Tokens.{role_of}
@@ -33,12 +29,12 @@ use Rattle.reading.proofs.Feeding.{step-on, steps-some, steps_all}
 use Rattle.reading.proofs.Theorems.{step_end, steps-still, steps-more}
 
 -- one step, where the sheet is not refused
-pub step-off : (x : Sheet) (v : View) (n : ℕ) (a : Turn) → a.state.refused ≡ refused.No → steps (suc n) x v a ≡ steps n x v (step x v a)
+pub step-off : (x : Sheet) (v : View) (n : ℕ) (a : Turn) → a.state.refused ≡ None → steps (suc n) x v a ≡ steps n x v (step x v a)
 unfolding steps unless
-step-off x v n a e = ap (λ (r : Refused). unless r a (steps n x v (step x v a))) e
+step-off x v n a e = ap (λ (r : Option Place). unless r a (steps n x v (step x v a))) e
 
 -- a sheet that is refused stays so
-pub steps-refused : (x : Sheet) (v : View) (n : ℕ) (a : Turn) (p : Place) → a.state.refused ≡ refused.At p → steps n x v a ≡ a
+pub steps-refused : (x : Sheet) (v : View) (n : ℕ) (a : Turn) (p : Place) → a.state.refused ≡ Some p → steps n x v a ≡ a
 steps-refused x v n a p e = steps-still x n v a (λ z. absurd (met p (sym e ∙ z)))
 
 module _ (x : Sheet) (v : View) where
@@ -49,15 +45,15 @@ module _ (x : Sheet) (v : View) where
   -- at a brace the one refuses; the other does too, or puts the brace as Str
   record AtBrace (a b : Turn) : Type 0 where
     at : Place
-    refused : b.state.refused ≡ refused.At at
+    refused : b.state.refused ≡ Some at
     same : a ≡ elim (x.block at.0) [ true ↦ b | false ↦ resumed v at.0 b ]
     low : v.base ≤ at.0
     short : at.0 - v.base < b.cursor.pos
 
   abbrev One : Turn → Turn → Type 0
-  One a b = ((b.state.refused ≡ refused.No) × (a ≡ b)) ⊎ AtBrace a b
+  One a b = ((b.state.refused ≡ None) × (a ≡ b)) ⊎ AtBrace a b
 
-  module _ (s : State) (un : s.refused ≡ refused.No) where
+  module _ (s : State) (un : s.refused ≡ None) where
     at-brace : (h : Here) → HereOk v h → One (braced x v h (x.block (v.base + h.from)) s) (braced y v h true s)
     unfolding braced tried opens_or
     at-brace h ok =
@@ -73,8 +69,8 @@ module _ (x : Sheet) (v : View) where
         from : v.base + h.from - v.base ≡ h.from
         from = omega arith
 
-        unrefused : with_refused refused.No s ≡ s
-        unrefused = ap (λ (r : Refused). with_refused r s) (sym un)
+        unrefused : with_refused None s ≡ s
+        unrefused = ap (λ (r : Option Place). with_refused r s) (sym un)
 
         go : (b : Bool) → braced x v h b s
             ≡ elim b [ true ↦ braced y v h true s | false ↦ resumed v (v.base + h.from) (braced y v h true s) ]
@@ -85,30 +81,30 @@ module _ (x : Sheet) (v : View) where
             ∙ ap (λ (i : ℕ). record { cursor = h.cursor; state = put v str i h.cursor.pos s }) from
             ∙ ap (λ (j : ℕ). record { cursor = h.cursor; state = put v str h.from j s }) ok.place))
 
-    by_one : (h : Here) → HereOk v h → (t : Token) (w : Inside) → One (by_place x v h t w s) (by_place y v h t w s)
+    by_one : (h : Here) → HereOk v h → (t : Token) (w : Option Verbatim) → One (by_place x v h t w s) (by_place y v h t w s)
     unfolding by_place close_as
-    by_one h ok t inside.No =
+    by_one h ok t None =
         each-ruled x y v s One (λ a k. inl (ap (λ z. z.0) k ∙ un, refl)) (λ h o t os. inl (un, refl)) (λ h. inl (un, refl)) h (λ c. at-brace h ok) (role_of t.kind)
-    by_one h ok t (inside.Verbatim w) = inl (ap (λ z. z.0) (in_kept v h s x.rules t w) ∙ un, refl)
+    by_one h ok t (Some w) = inl (ap (λ z. z.0) (in_kept v h s x.rules t w) ∙ un, refl)
 
-  one : (a : Turn) → Sound v.bytes a.cursor → a.state.refused ≡ refused.No → One (step x v a) (step y v a)
+  one : (a : Turn) → Sound v.bytes a.cursor → a.state.refused ≡ None → One (step x v a) (step y v a)
   unfolding on_token
   one a so un = on (next_of v.bytes a.cursor).token refl
     where
-      on : (t : Next) → (next_of v.bytes a.cursor).token ≡ t
+      on : (t : Option Token) → (next_of v.bytes a.cursor).token ≡ t
           → One (on_token x v a t (next_of v.bytes a.cursor).cursor) (on_token y v a t (next_of v.bytes a.cursor).cursor)
-      on next.None e = inl (un, refl)
-      on (next.Some t) e = by_one a.state un _ (here-ok v a.cursor t so e) t a.state.inside
+      on None e = inl (un, refl)
+      on (Some t) e = by_one a.state un _ (here-ok v a.cursor t so e) t a.state.inside
 
   -- so many steps, up to a stop. None, and the sheet gives the same
   pub record Goes (n : ℕ) (a b : Turn) : Type 0 where
-    pub refused : b.state.refused ≡ refused.No
+    pub refused : b.state.refused ≡ None
     pub same : steps n x v a ≡ b
 
   -- a block stands there, and the sheet gives the same
   pub record Stops (n : ℕ) (a b : Turn) : Type 0 where
     pub at : Place
-    pub refused : b.state.refused ≡ refused.At at
+    pub refused : b.state.refused ≡ Some at
     pub block : x.block at.0 ≡ true
     pub low : v.base ≤ at.0
     pub short : at.0 - v.base < b.cursor.pos
@@ -117,7 +113,7 @@ module _ (x : Sheet) (v : View) where
   -- or none does, and some steps of the sheet lead behind the brace
   pub record Resumes (n : ℕ) (a b : Turn) : Type 0 where
     pub at : Place
-    pub refused : b.state.refused ≡ refused.At at
+    pub refused : b.state.refused ≡ Some at
     pub block : x.block at.0 ≡ false
     pub low : v.base ≤ at.0
     pub short : at.0 - v.base < b.cursor.pos
@@ -130,7 +126,7 @@ module _ (x : Sheet) (v : View) where
   Settled n a b = Goes n a b ⊎ (Stops n a b ⊎ Resumes n a b)
 
   -- one step more before it
-  before : (n : ℕ) (a b c : Turn) → a.state.refused ≡ refused.No → step x v a ≡ c → Settled n c b → Settled (suc n) a b
+  before : (n : ℕ) (a b c : Turn) → a.state.refused ≡ None → step x v a ≡ c → Settled n c b → Settled (suc n) a b
   before n a b c un is (inl g) =
       inl record { refused = g.refused; same = step-off x v n a un ∙ ap (λ (z : Turn). steps n x v z) is ∙ g.same }
   before n a b c un is (inr (inl g)) =
@@ -156,7 +152,7 @@ module _ (x : Sheet) (v : View) where
       })
 
   -- the step is a stop
-  stopped : (n : ℕ) (a c : Turn) → a.state.refused ≡ refused.No → AtBrace (step x v a) c → Settled (suc n) a (steps n y v c)
+  stopped : (n : ℕ) (a c : Turn) → a.state.refused ≡ None → AtBrace (step x v a) c → Settled (suc n) a (steps n y v c)
   unfolding steps
   stopped n a c un r = subst (Settled (suc n) a) (sym (steps-refused y v n c r.at r.refused)) (go (x.block r.at.0) refl r.same)
     where
@@ -184,13 +180,13 @@ module _ (x : Sheet) (v : View) where
           })
 
   module _ (text : List ℕ) (m : ℕ) (shows : Shows text v) where
-    pub settled : (n : ℕ) (a : Turn) → Held Any text v m 0 a → a.state.refused ≡ refused.No → Settled n a (steps n y v a)
+    pub settled : (n : ℕ) (a : Turn) → Held Any text v m 0 a → a.state.refused ≡ None → Settled n a (steps n y v a)
     unfolding steps
     settled zero a h un = inl record { refused = un; same = refl }
     settled (suc n) a h un =
         subst (Settled (suc n) a) (sym (step-off y v n a un))
         (⊎_elim
-        (λ (g : ((step y v a).state.refused ≡ refused.No) × (step x v a ≡ step y v a)).
+        (λ (g : ((step y v a).state.refused ≡ None) × (step x v a ≡ step y v a)).
         before n a _ (step y v a) un g.1 (settled n (step y v a) (step-on Any text y v m shows (λ i. tt) a un h) g.0))
         (λ (g : AtBrace (step x v a) (step y v a)). stopped n a (step y v a) un g)
         (one a h.sound un))

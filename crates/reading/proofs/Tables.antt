@@ -1,5 +1,6 @@
 -- What the tables of tokens and openers keep to: a pair opens and closes the same container, or is two quotes; what stands alone neither opens
 -- nor closes; no token opens a link; only a link has a home and a link number.
+use Rattle.std.specs.Prelude.{None, Option, Some}
 use Prim.Native.Nat.{ℕ, ◌≤◌, ◌<◌}
 use mathlib.Core.Path.{◌≡◌, refl}
 use mathlib.Core.Bool.{Bool, true, false}
@@ -12,8 +13,6 @@ use Rattle.lex.specs.declared.lex.Symbol.TheVariants.{Asterisk, Caret, ExclaimBr
 use Rattle.lex.specs.declared.lex.Sequence.TheVariants.{Backtick, Hyphen, Period}
 use Rattle.reading.specs.declared.Sort.{Sort}
 use Rattle.reading.specs.declared.Sort.TheVariants as sort
-use Rattle.reading.specs.declared.Opens.{Opens}
-use Rattle.reading.specs.declared.Opens.TheVariants as opens
 use Rattle.reading.specs.declared.Marks.{Marks}
 use Rattle.reading.specs.declared.Role.{Role}
 use Rattle.reading.specs.declared.Role.TheVariants as role
@@ -21,6 +20,7 @@ use Rattle.reading.specs.declared.DelimEventKind.{DelimEventKind}
 use Rattle.reading.specs.declared.DelimEventKind.TheVariants as makes
 use Rattle.reading.specs.declared.Home.{Home}
 use Rattle.reading.specs.Events.{str, symbol, nowhere, enter, exit}
+use Rattle.reading.specs.Closers.{number}
 use Rattle.reading.specs.Tokens.{closed_by, unclosed, closing_of, link_sort, role_of, plain, bracket}
 use Rattle.reading.specs.Homes.{container_of, known, has_home, has_link}
 use Rattle.reading.specs.Walked.{walk_by, link_exit}
@@ -75,7 +75,7 @@ abbrev pub Low : ℕ → Type 0
 Low kind = (str ≤ kind) × (kind < symbol)
 
 pub unclosed-low : (s : Sort) → Low (unclosed s)
-unfolding unclosed closed_by
+unfolding unclosed closed_by number
 unclosed-low sort.Span = omega arith
 unclosed-low sort.Image = omega arith
 unclosed-low sort.Strong = omega arith
@@ -96,29 +96,6 @@ unclosed-low sort.ReferenceImage = omega arith
 unclosed-low sort.InlineLink = omega arith
 unclosed-low sort.InlineImage = omega arith
 
--- every opener is closed by a mark, and 0 is none
-pub closed_some : (s : Sort) → 1 ≤ closed_by s
-unfolding closed_by
-closed_some sort.Span = omega arith
-closed_some sort.Image = omega arith
-closed_some sort.Strong = omega arith
-closed_some sort.BraceStrong = omega arith
-closed_some sort.Emphasis = omega arith
-closed_some sort.BraceEmphasis = omega arith
-closed_some sort.Superscript = omega arith
-closed_some sort.BraceSuperscript = omega arith
-closed_some sort.Subscript = omega arith
-closed_some sort.BraceSubscript = omega arith
-closed_some sort.Mark = omega arith
-closed_some sort.Delete = omega arith
-closed_some sort.Insert = omega arith
-closed_some sort.SingleQuoted = omega arith
-closed_some sort.DoubleQuoted = omega arith
-closed_some sort.ReferenceLink = omega arith
-closed_some sort.ReferenceImage = omega arith
-closed_some sort.InlineLink = omega arith
-closed_some sort.InlineImage = omega arith
-
 pub link-not-single : (image inline : Bool) → Single (closing_of (link_sort image inline)) → ⊥
 unfolding Single closing_of link_sort
 link-not-single false false s = s
@@ -126,9 +103,9 @@ link-not-single false true s = s
 link-not-single true false s = s
 link-not-single true true s = s
 
-unfoldable pub OpensOk : Opens → Type 0
-OpensOk opens.None = Unit {0}
-OpensOk (opens.Some s) = Single (closing_of s)
+unfoldable pub OpensOk : Option Sort → Type 0
+OpensOk None = Unit {0}
+OpensOk (Some s) = Single (closing_of s)
 
 abbrev pub MarksOk : Marks → Type 0
 MarksOk m = Low m.alone × OpensOk m.opens

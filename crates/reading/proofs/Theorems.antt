@@ -1,4 +1,7 @@
 -- Demand 3 of document 01, and the homes of events: of every sheet whose lines pass questions 3 and 4 and that no attribute block refuses, for any bytes and any rules.
+use Rattle.std.specs.Prelude.{None, Option, Some}
+use Rattle.lex.specs.declared.lex.Token.{Token}
+use Rattle.reading.specs.declared.Verbatim.{Verbatim}
 use Prim.Native.Nat.{ℕ, zero, suc, ◌+◌, ◌≤◌, ◌<◌}
 use mathlib.Core.Path.{◌≡◌, refl, sym, ap, ◌∙◌, subst}
 use mathlib.Core.List.{List, [], ◌∷◌, append-nil}
@@ -11,11 +14,6 @@ use lib.Dec.{leb, ltb}
 use lib.ListN.{length, get_or, take, drop, length-append}
 use Rattle.classes.specs.Classes.{blank}
 use Rattle.reading.specs.declared.Line.{Line}
-use Rattle.reading.specs.declared.Inside.{Inside}
-use Rattle.reading.specs.declared.Inside.TheVariants as inside
-use Rattle.reading.specs.declared.Refused.TheVariants as refused
-use Rattle.lex.specs.declared.lex.Next.{Next}
-use Rattle.lex.specs.declared.lex.Next.TheVariants as next
 use Rattle.lex.specs.Lexer.{next_of}
 use Rattle.lex.proofs.Laws.{Sound, next-stepped, next-sounded}
 use Rattle.reading.specs.Machine.{View, Sheet, State, Turn, view_of}
@@ -125,10 +123,10 @@ module _ (x : Sheet) where
   unfolding Of
   free a ls r = apart Any [] (λ i n. tt) a ls r (λ i l o. absurd o)
 
-  ended-refused : (b : ℕ) (w : Inside) (s : State) → (ended_at b w s).refused ≡ s.refused
+  ended-refused : (b : ℕ) (w : Option Verbatim) (s : State) → (ended_at b w s).refused ≡ s.refused
   unfolding ended_at
-  ended-refused b inside.No s = refl
-  ended-refused b (inside.Verbatim w) s = refl
+  ended-refused b None s = refl
+  ended-refused b (Some w) s = refl
 
   module _ (ls : List Line) (fed : Fed x.text ls) where
     pub up : Rising x.text 0 ls
@@ -152,11 +150,11 @@ module _ (x : Sheet) where
     pub blanks : (i : ℕ) → Of (dropped x ls) i → blank (get_or x.text i 0) ≡ true
     blanks i d = lines-blank Loose x.text x ls 0 0 start up gaps (start-stood Loose x.text x) loose i (subst (λ (l : List Line). Of l i) none_other d)
 
-    module _ (taken : (read x ls).refused ≡ refused.No) where
+    module _ (taken : (read x ls).refused ≡ None) where
       abbrev before : State
       before = lines x (views x.text ls) start
 
-      unrefused : before.refused ≡ refused.No
+      unrefused : before.refused ≡ None
       unrefused = sym (ended-refused (end_of ls 0) before.inside before) ∙ taken
 
       out : Out Loose x.text (end_of ls 0) (suc (total ls)) (read x ls)
@@ -221,10 +219,10 @@ module _ (x : Sheet) where
     pub opener-room : (i j : ℕ) → length (moment x ls i j).openers ≤ total ls
     opener-room i j = (within i j).1
 
-    ended-few : (b n : ℕ) (w : Inside) (s : State) → length s.queue ≤ n → (length (ended_at b w s).queue ≤ n + 1) × ((ended_at b w s).openers ≡ s.openers)
+    ended-few : (b n : ℕ) (w : Option Verbatim) (s : State) → length s.queue ≤ n → (length (ended_at b w s).queue ≤ n + 1) × ((ended_at b w s).openers ≡ s.openers)
     unfolding ended_at
-    ended-few b n inside.No s l = (omega arith, refl)
-    ended-few b n (inside.Verbatim w) s l = (omega (arith, length-append s.queue (exit_of (get_or s.queue w.event nothing) b b ∷ [])), refl)
+    ended-few b n None s l = (omega arith, refl)
+    ended-few b n (Some w) s l = (omega (arith, length-append s.queue (exit_of (get_or s.queue w.event nothing) b b ∷ [])), refl)
 
     pub end-room : (length (read x ls).queue ≤ total ls + 1) × (length (read x ls).openers ≤ total ls)
     end-room =
@@ -238,12 +236,12 @@ module _ (x : Sheet) where
   unfolding on_token
   step_end v a so l = on (next_of v.bytes a.cursor).token refl
     where
-      on : (t : Next) → (next_of v.bytes a.cursor).token ≡ t → on_token x v a t (next_of v.bytes a.cursor).cursor ≡ a
-      on next.None e = refl
-      on (next.Some t) e =
+      on : (t : Option Token) → (next_of v.bytes a.cursor).token ≡ t → on_token x v a t (next_of v.bytes a.cursor).cursor ≡ a
+      on None e = refl
+      on (Some t) e =
           absurd (omega (arith, l, (next-stepped v.bytes a.cursor).within t e, (next-sounded v.bytes a.cursor so).some t e))
 
-  pub steps-still : (k : ℕ) (v : View) (a : Turn) → (a.state.refused ≡ refused.No → step x v a ≡ a) → steps k x v a ≡ a
+  pub steps-still : (k : ℕ) (v : View) (a : Turn) → (a.state.refused ≡ None → step x v a ≡ a) → steps k x v a ≡ a
   unfolding steps
   steps-still zero v a e = refl
   steps-still (suc k) v a e =

@@ -1,67 +1,26 @@
--- The closing marks (document 01, "Containers"): what a token closes, by number. A quote closes with a brace or without, so that each quote is one
--- mark.
-use Rattle.std.specs.Prelude.{ℕ}
+-- The closing marks (document 01, "Containers"): what a token closes. A quote closes with a brace or without, so that each quote is one mark.
+use Rattle.std.specs.Prelude.{ℕ, Bool, eqb}
+use Rattle.reading.specs.declared.Closer.{Closer}
+use Rattle.reading.specs.declared.Closer.TheVariants as closer
 
--- a token that closes nothing
-abbrev pub none : ℕ
-none = 0
+-- each mark has its number
+unfoldable pub number : Closer → ℕ
+number closer.Bracket = 1
+number closer.Paren = 2
+number closer.Asterisk = 3
+number closer.BraceAsterisk = 4
+number closer.Underscore = 5
+number closer.BraceUnderscore = 6
+number closer.Caret = 7
+number closer.BraceCaret = 8
+number closer.Tilde = 9
+number closer.BraceTilde = 10
+number closer.BraceEqual = 11
+number closer.BraceHyphen = 12
+number closer.BracePlus = 13
+number closer.Quote1 = 14
+number closer.Quote2 = 15
 
--- `]`
-abbrev pub bracket : ℕ
-bracket = 1
-
--- `)`
-abbrev pub paren : ℕ
-paren = 2
-
--- `*`
-abbrev pub asterisk : ℕ
-asterisk = 3
-
--- `*}`
-abbrev pub brace_asterisk : ℕ
-brace_asterisk = 4
-
--- `_`
-abbrev pub underscore : ℕ
-underscore = 5
-
--- `_}`
-abbrev pub brace_underscore : ℕ
-brace_underscore = 6
-
--- `^`
-abbrev pub caret : ℕ
-caret = 7
-
--- `^}`
-abbrev pub brace_caret : ℕ
-brace_caret = 8
-
--- `~`
-abbrev pub tilde : ℕ
-tilde = 9
-
--- `~}`
-abbrev pub brace_tilde : ℕ
-brace_tilde = 10
-
--- `=}`
-abbrev pub brace_equal : ℕ
-brace_equal = 11
-
--- `-}`
-abbrev pub brace_hyphen : ℕ
-brace_hyphen = 12
-
--- `+}`
-abbrev pub brace_plus : ℕ
-brace_plus = 13
-
--- `'`
-abbrev pub quote1 : ℕ
-quote1 = 14
-
--- `"`
-abbrev pub quote2 : ℕ
-quote2 = 15
+-- two marks are the same
+abbrev pub same : Closer → Closer → Bool
+same c d = eqb (number c) (number d)

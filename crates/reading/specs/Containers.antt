@@ -1,15 +1,14 @@
 -- Containers (document 01, "Containers"; Djot's rules on emphasis and its like, quotes, spans, links and images).
-use Rattle.std.specs.Prelude.{ℕ, suc, ◌+◌, ◌-◌, List, [], ◌∷◌, Bool, true, false, not, ◌&&◌, ◌||◌, leb, eqb, length, get_or, take, drop}
+use Rattle.std.specs.Prelude.{ℕ, suc, ◌+◌, ◌-◌, List, [], ◌∷◌, Bool, true, false, not, ◌&&◌, ◌||◌, leb, eqb, length, get_or, take, drop, Option, Some, None}
+use Rattle.lex.specs.declared.lex.Token.{Token}
 use Rattle.classes.specs.Classes.{blank}
-use Rattle.lex.specs.declared.lex.Next.{Next}
-use Rattle.lex.specs.declared.lex.Next.TheVariants as next
 use Rattle.lex.specs.declared.lex.Cursor.{Cursor}
 use Rattle.lex.specs.Lexer.{next_of, peek_of}
+use Rattle.reading.specs.declared.Closer.{Closer}
+use Rattle.reading.specs.Closers.{same}
 use Rattle.reading.specs.declared.Event.{Event}
 use Rattle.reading.specs.declared.Sort.{Sort}
 use Rattle.reading.specs.declared.Opener.{Opener}
-use Rattle.reading.specs.declared.Opens.{Opens}
-use Rattle.reading.specs.declared.Opens.TheVariants as opens
 use Rattle.reading.specs.declared.Marks.{Marks}
 use Rattle.reading.specs.declared.Role.{Role}
 use Rattle.reading.specs.declared.Role.TheVariants as role
@@ -22,9 +21,14 @@ use Rattle.reading.specs.Labels.{Labelled, label_of, label_home}
 use Rattle.reading.specs.Verbatim.{nothing}
 
 -- the newest opener that a mark closes, with the older ones below it
-unfoldable pub seek : ℕ → List Opener → List Opener
-seek c [] = []
-seek c (o ∷ os) = elim (eqb (closed_by o.sort) c) [ true ↦ o ∷ os | false ↦ seek c os ]
+unfoldable pub seek_mark : Closer → List Opener → List Opener
+seek_mark c [] = []
+seek_mark c (o ∷ os) = elim (same (closed_by o.sort) c) [ true ↦ o ∷ os | false ↦ seek_mark c os ]
+
+-- what closes nothing finds none
+unfoldable pub seek : Option Closer → List Opener → List Opener
+seek None os = []
+seek (Some c) os = seek_mark c os
 
 -- it is the only one tried. An empty pair does not close, except spans and links; a two-way one does not close after a blank
 unfoldable pub may_close : View → Here → State → Opener → Bool
@@ -38,26 +42,22 @@ closes_pair v h first second o s =
     puts (event second (v.base + h.from) (v.base + h.to) ∷ []) no_str
     (with_queue (amend (becomes first nowhere) o.event s.queue) s)
 
--- the bracket that a `]` takes along, if it does: `(` of an inline link, or `[` of one by reference
-pub data Along : Type 0 where
-  along : Bool → Along
-  by_itself : Along
-
-unfoldable pub takes : Role → Along
-takes role.Backticks = by_itself
-takes role.Brace = by_itself
-takes role.Lt = by_itself
-takes role.Colon = by_itself
-takes role.Bracket = along false
-takes role.Paren = along true
-takes role.Periods = by_itself
-takes role.Hyphens = by_itself
-takes (role.Other m) = by_itself
+-- the bracket that a `]` takes along, if it does: `(` of an inline link (true), or `[` of one by reference
+unfoldable pub takes : Role → Option Bool
+takes role.Backticks = None
+takes role.Brace = None
+takes role.Lt = None
+takes role.Colon = None
+takes role.Bracket = Some false
+takes role.Paren = Some true
+takes role.Periods = None
+takes role.Hyphens = None
+takes (role.Other m) = None
 
 -- what becomes of the `]` of a span: with a bracket of n bytes behind it, which is taken along unscanned, a link is opened; else it stays Str
-unfoldable pub span_with : View → Here → Bool → Opener → Cursor → ℕ → Along → State → Turn
-span_with v h image o c n by_itself s = record { cursor = c; state = put v str h.from h.to s }
-span_with v h image o c n (along inline) s =
+unfoldable pub span_with : View → Here → Bool → Opener → Cursor → ℕ → Option Bool → State → Turn
+span_with v h image o c n None s = record { cursor = c; state = put v str h.from h.to s }
+span_with v h image o c n (Some inline) s =
     record {
       cursor = (next_of v.bytes c).cursor;
       state = put v str h.to (h.to + n)
@@ -65,9 +65,9 @@ span_with v h image o c n (along inline) s =
           (put v str h.from h.to s));
     }
 
-unfoldable pub closes_span : View → Here → Bool → Opener → Cursor → Next → State → Turn
-closes_span v h image o c next.None s = span_with v h image o c 0 by_itself s
-closes_span v h image o c (next.Some t) s = span_with v h image o c t.len (takes (role_of t.kind)) s
+unfoldable pub closes_span : View → Here → Bool → Opener → Cursor → Option Token → State → Turn
+closes_span v h image o c None s = span_with v h image o c 0 None s
+closes_span v h image o c (Some t) s = span_with v h image o c t.len (takes (role_of t.kind)) s
 
 -- the label of a link whose destination's opener is o
 abbrev pub labelled : Sheet → View → Here → Bool → Opener → State → Labelled
@@ -114,9 +114,9 @@ open_as v h o s =
     with_openers (record { sort = o; event = length s.queue; span = 0 } ∷ s.openers) (put v (unclosed o) h.from h.to s)
 
 -- a token that closes nothing: an opener, or what it is alone
-unfoldable pub opens_or : View → Here → ℕ → Opens → State → State
-opens_or v h alone opens.None s = put v alone h.from h.to s
-opens_or v h alone (opens.Some o) s =
+unfoldable pub opens_or : View → Here → ℕ → Option Sort → State → State
+opens_or v h alone None s = put v alone h.from h.to s
+opens_or v h alone (Some o) s =
     elim (may_open v h s o) [ true ↦ open_as v h o s | false ↦ put v alone h.from h.to s ]
 
 unfoldable pub tried : Sheet → View → Here → Marks → List Opener → State → Turn

@@ -1,14 +1,11 @@
 -- Dropped blanks (document 01, "Verbatim" and "Walked events"): which blanks the verbatim rule drops, by the tokens alone. Nothing is asked of
 -- the queue, nor of what the reading notes of an open verbatim but the length of its run.
-use Rattle.std.specs.Prelude.{ℕ, zero, suc, ◌+◌, ◌-◌, List, [], ◌∷◌, ◌++◌, Bool, true, false, not, ◌&&◌, eqb, length}
+use Rattle.std.specs.Prelude.{ℕ, zero, suc, ◌+◌, ◌-◌, List, [], ◌∷◌, ◌++◌, Bool, true, false, not, ◌&&◌, eqb, length, Option, Some, None}
+use Rattle.reading.specs.declared.Verbatim.{Verbatim}
 use Rattle.lex.specs.declared.lex.Token.{Token}
-use Rattle.lex.specs.declared.lex.Next.{Next}
-use Rattle.lex.specs.declared.lex.Next.TheVariants as next
 use Rattle.lex.specs.declared.lex.Cursor.{Cursor}
 use Rattle.lex.specs.Lexer.{next_of, peek_of}
 use Rattle.reading.specs.declared.Line.{Line}
-use Rattle.reading.specs.declared.Inside.{Inside}
-use Rattle.reading.specs.declared.Inside.TheVariants as inside
 use Rattle.reading.specs.Machine.{View, Sheet, State, Turn, Here}
 use Rattle.reading.specs.Tokens.{role_of, is_run}
 use Rattle.reading.specs.Verbatim.{all_blank, bytes_of}
@@ -33,9 +30,9 @@ abbrev pub ends : ℕ → Here → Token → Bool
 ends n h t = is_run (role_of t.kind) && eqb (h.to - h.from) n
 
 -- a run of another length
-unfoldable pub longer_or_shorter : ℕ → Next → Bool
-longer_or_shorter n next.None = false
-longer_or_shorter n (next.Some t) = is_run (role_of t.kind) && not (eqb t.len n)
+unfoldable pub longer_or_shorter : ℕ → Option Token → Bool
+longer_or_shorter n None = false
+longer_or_shorter n (Some t) = is_run (role_of t.kind) && not (eqb t.len n)
 
 -- before the first content that is not blank, with a backtick run of another length as the next token of the line: a blank token there is dropped
 abbrev pub leads : View → Here → ℕ → Content → Bool
@@ -62,22 +59,22 @@ content_with v h t n c =
     ]
 
 -- outside verbatim nothing is dropped, and what opens has no content yet
-unfoldable pub drops_in : View → Here → Token → Inside → Content → List Line
-drops_in v h t inside.No c = []
-drops_in v h t (inside.Verbatim w) c = drops_at v h t w.len c
+unfoldable pub drops_in : View → Here → Token → Option Verbatim → Content → List Line
+drops_in v h t None c = []
+drops_in v h t (Some w) c = drops_at v h t w.len c
 
-unfoldable pub content_in : View → Here → Token → Inside → Content → Content
-content_in v h t inside.No c = no_content
-content_in v h t (inside.Verbatim w) c = content_with v h t w.len c
+unfoldable pub content_in : View → Here → Token → Option Verbatim → Content → Content
+content_in v h t None c = no_content
+content_in v h t (Some w) c = content_with v h t w.len c
 
 -- at the next token of the line
-unfoldable pub drops_on : View → Turn → Next → Cursor → Content → List Line
-drops_on v a next.None k c = []
-drops_on v a (next.Some t) k c = drops_in v (here_at a.cursor t k) t a.state.inside c
+unfoldable pub drops_on : View → Turn → Option Token → Cursor → Content → List Line
+drops_on v a None k c = []
+drops_on v a (Some t) k c = drops_in v (here_at a.cursor t k) t a.state.inside c
 
-unfoldable pub content_on : View → Turn → Next → Cursor → Content → Content
-content_on v a next.None k c = c
-content_on v a (next.Some t) k c = content_in v (here_at a.cursor t k) t a.state.inside c
+unfoldable pub content_on : View → Turn → Option Token → Cursor → Content → Content
+content_on v a None k c = c
+content_on v a (Some t) k c = content_in v (here_at a.cursor t k) t a.state.inside c
 
 abbrev pub step_drops : View → Turn → Content → List Line
 step_drops v a c = let l = next_of v.bytes a.cursor in drops_on v a l.token l.cursor c

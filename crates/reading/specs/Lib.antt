@@ -12,6 +12,7 @@ pub mod Reading
 pub mod Dropped
 pub mod Draining
 pub mod Questions
+pub mod Refusals
 pub mod Homes
 pub mod Walked
 pub mod Sheets

@@ -1,14 +1,14 @@
 -- What a step of the reading goes by: the view of a line, the rules of the reading, the state, and an event put into the queue.
-use Rattle.std.specs.Prelude.{ℕ, zero, suc, ◌+◌, ◌-◌, List, [], ◌∷◌, ◌++◌, Bool, true, false, not, ◌&&◌, ltb, eqb, get_or, take, drop}
+use Rattle.std.specs.Prelude.{ℕ, zero, suc, ◌+◌, ◌-◌, List, [], ◌∷◌, ◌++◌, Bool, true, false, not, ◌&&◌, ltb, eqb, get_or, take, drop, Option}
+use Rattle.reading.specs.declared.Place.{Place}
+use Rattle.reading.specs.declared.Verbatim.{Verbatim}
 use Prim.Native.Char.{code}
 use Rattle.lex.specs.declared.lex.Cursor.{Cursor}
 use Rattle.reading.specs.declared.Line.{Line}
 use Rattle.reading.specs.declared.Link.{Link}
 use Rattle.reading.specs.declared.Event.{Event}
 use Rattle.reading.specs.declared.Opener.{Opener}
-use Rattle.reading.specs.declared.Inside.{Inside}
 use Rattle.reading.specs.declared.Last.{Last}
-use Rattle.reading.specs.declared.Refused.{Refused}
 use Rattle.reading.specs.Events.{place, link, event, str}
 
 -- a line as the reading sees it: where it starts, the byte before it (0 at the text's start), and its bytes
@@ -55,12 +55,12 @@ pub record Sheet : Type 0 where
 pub record State : Type 0 where
   pub queue : List Event
   pub openers : List Opener
-  pub inside : Inside
+  pub inside : Option Verbatim
   pub last : Last
   pub labels : List ℕ
   pub fits : Bool
   pub links : Link
-  pub refused : Refused
+  pub refused : Option Place
 
 -- the state and the lexer's cursor, between two tokens
 pub record Turn : Type 0 where
@@ -145,7 +145,7 @@ with_openers os s =
       refused = s.refused;
     }
 
-abbrev pub with_inside : Inside → State → State
+abbrev pub with_inside : Option Verbatim → State → State
 with_inside w s =
     record {
       queue = s.queue;

@@ -1,9 +1,8 @@
 -- Questions asked of a sheet, in order, and what every room holds afterwards (document 01, "Questions asked of a sheet, in order").
-use Rattle.std.specs.Prelude.{ℕ, suc, ◌+◌, ◌-◌, ◌*◌, ◌/◌, ◌≡◌, List, [], ◌∷◌, ◌++◌, Bool, true, false, ◌&&◌, leb, ltb, length, replicate}
+use Rattle.std.specs.Prelude.{ℕ, suc, ◌+◌, ◌-◌, ◌*◌, ◌/◌, ◌≡◌, List, [], ◌∷◌, ◌++◌, Bool, true, false, ◌&&◌, leb, ltb, length, replicate, Option, Some, None}
+use Rattle.reading.specs.declared.Place.{Place}
 use Rattle.reading.specs.declared.Line.{Line}
 use Rattle.reading.specs.declared.Event.{Event}
-use Rattle.reading.specs.declared.Refused.{Refused}
-use Rattle.reading.specs.declared.Refused.TheVariants as refused
 use Rattle.reading.specs.declared.Answer.{Answer}
 use Rattle.reading.specs.Events.{event_numbers, queue_numbers, opener_numbers, largest, label_limit}
 use Rattle.reading.specs.Machine.{State}
@@ -98,10 +97,10 @@ handed_out es labels rooms =
     ]
 
 -- 7: does no attribute block stand outside verbatim? 8: does the label room hold all the labels built?
-unfoldable pub judged : Refused → Bool → State → Rooms → Outcome
-judged (refused.At p) fits s rooms = refuses 7 p.0 (cleared rooms)
-judged refused.No false s rooms = refuses 8 0 (cleared rooms)
-judged refused.No true s rooms = handed_out (drain s.queue) s.labels rooms
+unfoldable pub judged : Option Place → Bool → State → Rooms → Outcome
+judged (Some p) fits s rooms = refuses 7 p.0 (cleared rooms)
+judged None false s rooms = refuses 8 0 (cleared rooms)
+judged None true s rooms = handed_out (drain s.queue) s.labels rooms
 
 -- the whole answer, and the rooms at its end, of a sheet with blocks at some places
 unfoldable pub outcome_with : (ℕ → Bool) → List ℕ → List Line → ℕ → Rooms → Outcome

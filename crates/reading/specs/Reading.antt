@@ -1,23 +1,17 @@
 -- The reading: a step on a token, repeated to the end of the line, for every line; and the end. The order of the rules is that of the Rust's
 -- `parse_event`.
-use Rattle.std.specs.Prelude.{ℕ, zero, suc, ◌+◌, ◌-◌, List, [], ◌∷◌, map, Bool, true, false, leb, ltb, length, take, drop}
+use Rattle.std.specs.Prelude.{ℕ, zero, suc, ◌+◌, ◌-◌, List, [], ◌∷◌, map, Bool, true, false, leb, ltb, length, take, drop, Option, Some, None}
+use Rattle.reading.specs.declared.Place.{Place}
+use Rattle.reading.specs.declared.Verbatim.{Verbatim}
 use Rattle.lex.specs.declared.lex.Token.{Token}
-use Rattle.lex.specs.declared.lex.Next.{Next}
-use Rattle.lex.specs.declared.lex.Next.TheVariants as next
 use Rattle.lex.specs.declared.lex.Cursor.{Cursor}
 use Rattle.lex.specs.declared.lex.Lexed.{Lexed}
 use Rattle.lex.specs.Lexer.{fresh_of, next_of, peek_of}
-use Rattle.scan.specs.declared.Ahead.{Ahead}
-use Rattle.scan.specs.declared.Ahead.TheVariants as ahead
 use Rattle.scan.specs.Scans.{autolink_of, symbol_of, footnote_of}
 use Rattle.dash.specs.Dashes.{dashes_of}
 use Rattle.reading.specs.declared.Line.{Line}
 use Rattle.reading.specs.declared.Role.{Role}
 use Rattle.reading.specs.declared.Role.TheVariants as role
-use Rattle.reading.specs.declared.Inside.{Inside}
-use Rattle.reading.specs.declared.Inside.TheVariants as inside
-use Rattle.reading.specs.declared.Refused.{Refused}
-use Rattle.reading.specs.declared.Refused.TheVariants as refused
 use Rattle.reading.specs.Events.{place, link, longest_run, str, symbol, footnote}
 use Rattle.reading.specs.Machine.{View, Sheet, State, Turn, Here, view_of, rules_of, puts, put, no_str, with_inside}
 use Rattle.reading.specs.Tokens.{role_of, is_caret, plain, bracket}
@@ -26,7 +20,7 @@ use Rattle.reading.specs.Verbatim.{opens_verbatim, in_verbatim, moved_on, flag_o
 use Rattle.reading.specs.Containers.{container}
 use Rattle.reading.specs.Blocks.{block_at, everywhere}
 
-abbrev pub with_refused : Refused → State → State
+abbrev pub with_refused : Option Place → State → State
 with_refused r s =
     record {
       queue = s.queue;
@@ -41,27 +35,27 @@ with_refused r s =
 
 -- an attribute block: the sheet is refused, and no later step is taken
 abbrev pub refuse : ℕ → State → State
-refuse at s = with_refused (refused.At (place at)) s
+refuse at s = with_refused (Some (place at)) s
 
 -- `<`: an autolink if the scan accepts (Djot: an address in angle brackets); else as any token
-unfoldable pub angle : Sheet → View → Here → Ahead → State → Turn
-angle x v h (ahead.Some n) s = autolinked v h n s
-angle x v h ahead.None s = container x v h (plain str) s
+unfoldable pub angle : Sheet → View → Here → Option ℕ → State → Turn
+angle x v h (Some n) s = autolinked v h n s
+angle x v h None s = container x v h (plain str) s
 
 -- `:`: a symbol if the scan accepts (Djot: a name between colons)
-unfoldable pub colon : Sheet → View → Here → Ahead → State → Turn
-colon x v h (ahead.Some n) s = named symbol v h n s
-colon x v h ahead.None s = container x v h (plain str) s
+unfoldable pub colon : Sheet → View → Here → Option ℕ → State → Turn
+colon x v h (Some n) s = named symbol v h n s
+colon x v h None s = container x v h (plain str) s
 
 -- `[^`: a footnote reference if the scan accepts; otherwise it is one two-byte opener
-unfoldable pub noted : Sheet → View → Here → Ahead → State → Turn
-noted x v h (ahead.Some n) s = named footnote v h n s
-noted x v h ahead.None s = container x v h bracket s
+unfoldable pub noted : Sheet → View → Here → Option ℕ → State → Turn
+noted x v h (Some n) s = named footnote v h n s
+noted x v h None s = container x v h bracket s
 
 -- `[`: the next token is peeked at; with `^` behind it, and not `^}`, the two are one token
-unfoldable pub bracketed : Sheet → View → Here → Lexed → Next → State → Turn
-bracketed x v h p next.None s = container x v (record { from = h.from; to = h.to; cursor = p.cursor }) bracket s
-bracketed x v h p (next.Some t) s =
+unfoldable pub bracketed : Sheet → View → Here → Lexed → Option Token → State → Turn
+bracketed x v h p None s = container x v (record { from = h.from; to = h.to; cursor = p.cursor }) bracket s
+bracketed x v h p (Some t) s =
     elim (is_caret (role_of t.kind)) [
       | true ↦ let j = h.to + t.len in
           noted x v (record { from = h.from; to = j; cursor = (next_of v.bytes p.cursor).cursor }) (footnote_of (drop j v.bytes)) s
@@ -90,27 +84,27 @@ outside x v h role.Hyphens s =
 outside x v h (role.Other m) s = container x v h m s
 
 -- a token, inside verbatim or outside
-unfoldable pub by_place : Sheet → View → Here → Token → Inside → State → Turn
-by_place x v h t inside.No s = outside x v h (role_of t.kind) s
-by_place x v h t (inside.Verbatim w) s = in_verbatim x.rules v h t w s
+unfoldable pub by_place : Sheet → View → Here → Token → Option Verbatim → State → Turn
+by_place x v h t None s = outside x v h (role_of t.kind) s
+by_place x v h t (Some w) s = in_verbatim x.rules v h t w s
 
 -- where a token stands that was taken at a cursor
 abbrev pub here_at : Cursor → Token → Cursor → Here
 here_at c t behind = record { from = c.pos; to = c.pos + t.len; cursor = behind }
 
 -- at the end of the line nothing changes
-unfoldable pub on_token : Sheet → View → Turn → Next → Cursor → Turn
-on_token x v a next.None c = a
-on_token x v a (next.Some t) c = by_place x v (here_at a.cursor t c) t a.state.inside a.state
+unfoldable pub on_token : Sheet → View → Turn → Option Token → Cursor → Turn
+on_token x v a None c = a
+on_token x v a (Some t) c = by_place x v (here_at a.cursor t c) t a.state.inside a.state
 
 -- one step: the next token of the line
 abbrev pub step : Sheet → View → Turn → Turn
 step x v a = let l = next_of v.bytes a.cursor in on_token x v a l.token l.cursor
 
 -- one of two, by whether the sheet is refused
-unfoldable pub unless : {A : Type 0} → Refused → A → A → A
-unless (refused.At p) a b = a
-unless refused.No a b = b
+unfoldable pub unless : {A : Type 0} → Option Place → A → A → A
+unless (Some p) a b = a
+unless None a b = b
 
 -- so many steps, or up to an attribute block
 unfoldable pub steps : ℕ → Sheet → View → Turn → Turn
@@ -140,12 +134,12 @@ start =
     record {
       queue = [];
       openers = [];
-      inside = inside.No;
+      inside = None;
       last = no_str;
       labels = [];
       fits = true;
       links = link 0;
-      refused = refused.No;
+      refused = None;
     }
 
 -- the last line's end
@@ -170,7 +164,7 @@ unasked text reading room = sheet_with everywhere text reading room
 
 -- behind such a stop at the brace at p, if no block stands there: the brace is Str, and the line goes on
 abbrev pub resumed : View → ℕ → Turn → Turn
-resumed v p a = record { cursor = a.cursor; state = put v str (p - v.base) a.cursor.pos (with_refused refused.No a.state) }
+resumed v p a = record { cursor = a.cursor; state = put v str (p - v.base) a.cursor.pos (with_refused None a.state) }
 
 -- what the lines of a sheet give: all lines, and the end
 abbrev pub read : Sheet → List Line → State

@@ -1,18 +1,12 @@
 -- Verbatim (document 01, "Verbatim"; Djot's rules on verbatim, raw inlines and math).
-use Rattle.std.specs.Prelude.{ℕ, suc, ◌+◌, ◌-◌, List, [], ◌∷◌, Bool, true, false, not, ◌&&◌, eqb, length, get_or, take, drop}
+use Rattle.std.specs.Prelude.{ℕ, suc, ◌+◌, ◌-◌, List, [], ◌∷◌, Bool, true, false, not, ◌&&◌, eqb, length, get_or, take, drop, Option, Some, None}
 use Rattle.classes.specs.Classes.{blank}
 use Rattle.lex.specs.declared.lex.Token.{Token}
-use Rattle.lex.specs.declared.lex.Next.{Next}
-use Rattle.lex.specs.declared.lex.Next.TheVariants as next
 use Rattle.lex.specs.declared.lex.Cursor.{Cursor}
 use Rattle.lex.specs.Lexer.{fresh_of, peek_of}
-use Rattle.scan.specs.declared.Ahead.{Ahead}
-use Rattle.scan.specs.declared.Ahead.TheVariants as ahead
 use Rattle.scan.specs.Scans.{raw_format_of}
 use Rattle.reading.specs.declared.Event.{Event}
 use Rattle.reading.specs.declared.Verbatim.{Verbatim}
-use Rattle.reading.specs.declared.Inside.{Inside}
-use Rattle.reading.specs.declared.Inside.TheVariants as inside
 use Rattle.reading.specs.declared.Last.{Last}
 use Rattle.reading.specs.Events.{event, in_text, becomes, shorter, exit_of, enter, str, verbatim, raw_format, inline_math, display_math}
 use Rattle.reading.specs.Machine.{View, Rules, State, Turn, Here, amend, amend_last, puts, put, no_str, with_queue, with_inside}
@@ -34,7 +28,7 @@ opened_as n = elim (eqb n 0) [ true ↦ verbatim | false ↦ elim (eqb n 1) [ tr
 abbrev pub opens_with : ℕ → View → Here → State → State
 opens_with n v h s =
     with_inside
-    (inside.Verbatim record {
+    (Some record {
       event = length s.queue;
       len = h.to - h.from;
       seen = false;
@@ -63,21 +57,21 @@ nothing = event 0 0 0
 -- When a verbatim ends, the event at the opener's place decides the exit, which is put behind what is kept of the queue
 abbrev pub exits : Verbatim → List Event → ℕ → ℕ → State → State
 exits w q a b s =
-    with_inside inside.No (puts (exit_of (get_or s.queue w.event nothing) a b ∷ []) no_str (with_queue q s))
+    with_inside None (puts (exit_of (get_or s.queue w.event nothing) a b ∷ []) no_str (with_queue q s))
 
 -- the raw format behind a closing run: only where the token there is `{=`
-unfoldable pub format_ahead : View → ℕ → Next → Ahead
-format_ahead v j next.None = ahead.None
-format_ahead v j (next.Some t) =
-    elim (is_format (role_of t.kind)) [ true ↦ raw_format_of (drop (j + 2) v.bytes) | false ↦ ahead.None ]
+unfoldable pub format_ahead : View → ℕ → Option Token → Option ℕ
+format_ahead v j None = None
+format_ahead v j (Some t) =
+    elim (is_format (role_of t.kind)) [ true ↦ raw_format_of (drop (j + 2) v.bytes) | false ↦ None ]
 
 -- a raw format of n bytes makes the verbatim a raw inline, and the exit goes to behind its `}`
 abbrev pub formatted : View → ℕ → ℕ → Verbatim → List Event → List Event
 formatted v a n w q = amend (becomes (enter raw_format) (in_text (v.base + a) (v.base + a + n))) w.event q
 
-unfoldable pub closed_with : View → Here → Cursor → Verbatim → Ahead → State → Turn
-closed_with v h c w ahead.None s = record { cursor = flagged false c; state = exits w (kept w s.queue) (v.base + h.from) (v.base + h.to) s }
-closed_with v h c w (ahead.Some n) s =
+unfoldable pub closed_with : View → Here → Cursor → Verbatim → Option ℕ → State → Turn
+closed_with v h c w None s = record { cursor = flagged false c; state = exits w (kept w s.queue) (v.base + h.from) (v.base + h.to) s }
+closed_with v h c w (Some n) s =
     let a = h.to + 2 in
     record {
       cursor = fresh_of (a + n + 1) false;
@@ -98,20 +92,20 @@ all_blank (b ∷ bs) = blank b && all_blank bs
 abbrev pub bytes_of : View → Here → List ℕ
 bytes_of v h = take (h.to - h.from) (drop h.from v.bytes)
 
-unfoldable pub another_run : Verbatim → Next → Bool
-another_run w next.None = false
-another_run w (next.Some t) = is_run (role_of t.kind) && not (eqb t.len w.len)
+unfoldable pub another_run : Verbatim → Option Token → Bool
+another_run w None = false
+another_run w (Some t) = is_run (role_of t.kind) && not (eqb t.len w.len)
 
 -- a blank token before the first non-blank content is dropped if the next token of the line is a backtick run of another length. (Djot: one
 -- space beside a backtick at the content's edge is left out)
-abbrev pub skips : Verbatim → Next → Bool
+abbrev pub skips : Verbatim → Option Token → Bool
 skips w t = not w.seen && another_run w t
 
 -- a non-blank token: seen, and whether it is a run
 abbrev pub content : View → Here → Token → Verbatim → State → State
 content v h t w s =
     with_inside
-    (inside.Verbatim record {
+    (Some record {
       event = w.event;
       len = w.len;
       seen = true;
@@ -142,17 +136,17 @@ in_verbatim r v h t w s =
     ]
 
 -- on a later line the opener does not stand on the line any more
-unfoldable pub moved_on : Inside → Inside
-moved_on inside.No = inside.No
-moved_on (inside.Verbatim w) =
-    inside.Verbatim record { event = w.event; len = w.len; seen = w.seen; run = w.run; keep = w.keep; here = false }
+unfoldable pub moved_on : Option Verbatim → Option Verbatim
+moved_on None = None
+moved_on (Some w) =
+    Some record { event = w.event; len = w.len; seen = w.seen; run = w.run; keep = w.keep; here = false }
 
 -- there the lexer is in verbatim as the rules of the reading say
-unfoldable pub flag_of : Rules → Inside → Bool
-flag_of r inside.No = false
-flag_of r (inside.Verbatim w) = r.later
+unfoldable pub flag_of : Rules → Option Verbatim → Bool
+flag_of r None = false
+flag_of r (Some w) = r.later
 
 -- at the end of the lines an open verbatim gets an exit of width 0 at the last line's end
-unfoldable pub ended_at : ℕ → Inside → State → State
-ended_at b inside.No s = s
-ended_at b (inside.Verbatim w) s = exits w s.queue b b s
+unfoldable pub ended_at : ℕ → Option Verbatim → State → State
+ended_at b None s = s
+ended_at b (Some w) s = exits w s.queue b b s

@@ -1,10 +1,12 @@
 #![tactic(auto)]
 // The types of a reading: lines, events, openers, and the parts of the parser's state. The definition in `specs/` and the parser share
 // them.
-pub mod closer;
 pub mod code;
 pub mod container;
 pub mod kind;
+pub mod refusal;
+
+pub use refusal::Refusal;
 
 // The numbers of a record: an event that is handed out, one of the queue, an opener.
 pub const EVENT_NUMBERS: usize = 7;
@@ -98,18 +100,46 @@ pub struct Opener {
     pub span: usize,
 }
 
-// What a token opens.
-#[derive(Clone, Copy)]
-pub enum Opens {
-    Some(Sort),
-    None,
+// The closing marks: what a token closes. A quote closes with a brace or without, so that each quote is one mark.
+#[derive(Clone, Copy, PartialEq, Eq)]
+pub enum Closer {
+    // `]`
+    Bracket,
+    // `)`
+    Paren,
+    // `*`
+    Asterisk,
+    // `*}`
+    BraceAsterisk,
+    // `_`
+    Underscore,
+    // `_}`
+    BraceUnderscore,
+    // `^`
+    Caret,
+    // `^}`
+    BraceCaret,
+    // `~`
+    Tilde,
+    // `~}`
+    BraceTilde,
+    // `=}`
+    BraceEqual,
+    // `-}`
+    BraceHyphen,
+    // `+}`
+    BracePlus,
+    // `'`
+    Quote1,
+    // `"`
+    Quote2,
 }
 
-// A token as the rules on containers see it: what it opens, the mark that it closes (0 for none), and the kind of event that it is alone.
+// A token as the rules on containers see it: what it opens, the mark that it closes, and the kind of event that it is alone.
 #[derive(Clone, Copy)]
 pub struct Marks {
-    pub opens: Opens,
-    pub closes: u32,
+    pub opens: Option<Sort>,
+    pub closes: Option<Closer>,
     pub alone: u32,
 }
 
@@ -161,12 +191,6 @@ pub struct Verbatim {
     pub here: bool,
 }
 
-#[derive(Clone, Copy)]
-pub enum Inside {
-    Verbatim(Verbatim),
-    No,
-}
-
 // The newest event: whether it is a Str, the end of one, and how many dollars a backtick run right behind it would take.
 #[derive(Clone, Copy)]
 pub struct Last {
@@ -175,16 +199,9 @@ pub struct Last {
     pub dollars: u32,
 }
 
-// The brace outside verbatim at which the reading stopped: at the end, the first at which an attribute block stands.
-#[derive(Clone, Copy)]
-pub enum Refused {
-    At(Place),
-    No,
-}
-
 // The answer: code, place, how many events, how many label bytes.
 #[repr(C)]
-#[derive(Clone, Copy)]
+#[derive(Clone, Copy, PartialEq, Eq)]
 pub struct Answer {
     pub code: u32,
     pub place: u32,

@@ -1,8 +1,12 @@
 #![tactic(auto)]
 // The program behind `./unpack`: a packed list of its input is read, and its events and the answer
 // are printed.
-use packed::{FAULTY, PACKED_ROOM, Restored};
-use packing::Fault;
+ghost use Rattle.std.specs.Prelude.{◌/◌, ◌≤◌, length, OnOk, IfOk, IfSome};
+ghost use Rattle.std.specs.Io.KnownBytes.{Appends};
+ghost use Rattle.reading.specs.Events.{event_numbers};
+ghost use Rattle.receive.specs.Received.{answer_line, unpacked_text, list_within, list_text, received};
+
+use packed::{PackedAnswer, UnpackError};
 use reading::EVENT_NUMBERS;
 use std::io;
 use std::io::{Read, Write};
@@ -13,55 +17,64 @@ const BYTES: usize = 65536;
 const EVENT_ROOM: usize = BYTES / 4 * EVENT_NUMBERS;
 
 // The answer, on a line.
-fn write_answer<W: Write>(to: &mut W, code: u32, place: usize, count: usize) -> io::Result<()> {
+fn write_answer<W: Write>(to: &mut W, a: PackedAnswer) -> io::Result<()>
+    ensures { OnOk result (Appends (W.contents to.old) (W.contents to.new) (answer_line a)) }
+{
+    let PackedAnswer { code, place, count } = a;
     writeln!(to, "{code} {place} {count}")
 }
 
-// What a fault is, in plain words.
-fn say<W: Write>(to: &mut W, fault: Fault) -> io::Result<()> {
-    match fault {
-        Fault::Cut => to.write_all(b"the list ends there, within a number or before one\n"),
-        Fault::Longer => to.write_all(b"the number there has more bytes than it needs\n"),
-        Fault::TooLarge => to.write_all(b"the number there is over 4294967295\n"),
-        Fault::Beyond => to.write_all(
-            b"the number there moves a start or an end beyond 4294967295\n",
-        ),
-        Fault::UnknownKind => to.write_all(b"the number there is no kind of an event\n"),
-        Fault::WrongHome => to.write_all(
-            b"the number there is no home, or the event's kind has none\n",
-        ),
-        Fault::Rest => to.write_all(b"bytes are left over from there on\n"),
-    }
-}
-
-// Nothing is handed out.
-fn refuse<W: Write, E: Write>(
+// What is unpacked: the events and the answer, or the answer, and why there are none.
+fn write_unpacked<W: Write, E: Write>(
     to: &mut W,
     errors: &mut E,
-    code: u32,
-    place: usize,
-) -> io::Result<()> {
-    write_answer(to, code, place, 0)?;
-    printing::say_place(errors, code, place as u64)
-}
-
-fn receive<W: Write, E: Write>(to: &mut W, errors: &mut E, bytes: &[u8]) -> io::Result<()> {
-    let mut events = [0u32; EVENT_ROOM];
-    let r = packed::restore(bytes, &mut events);
-    match r {
-        Restored::All(n) => {
-            printing::write_events(to, &events, n)?;
-            write_answer(to, 0, 0, n)
+    unpacked: Result<usize, UnpackError>,
+    events: &[u32],
+) -> io::Result<()>
+    requires { IfOk unpacked (λ n. n ≤ length events.now / event_numbers) }
+    ensures out { OnOk result (Appends (W.contents to.old) (W.contents to.new)
+        (unpacked_text unpacked events.now).out) }
+    ensures errors { OnOk result (Appends (E.contents errors.old) (E.contents errors.new)
+        (unpacked_text unpacked events.now).errors) }
+{
+    let answer = PackedAnswer::from(unpacked);
+    match unpacked {
+        Ok(n) => {
+            printing::write_events(to, &events[..n * EVENT_NUMBERS])?;
+            write_answer(to, answer)
         }
-        Restored::Faulty(f, p) => {
-            refuse(to, errors, FAULTY, p)?;
-            say(errors, f)
-        }
-        Restored::Short => {
-            refuse(to, errors, PACKED_ROOM, 0)?;
-            errors.write_all(b"the events are more than the event room holds\n")
+        Err(e) => {
+            write_answer(to, answer)?;
+            printing::write_refused(errors, answer.code, answer.place, &e)
         }
     }
+}
+
+// The events of a list, by way of an event room.
+fn write_list<W: Write, E: Write>(
+    to: &mut W,
+    errors: &mut E,
+    bytes: &[u8],
+    events: &mut [u32],
+) -> io::Result<()>
+    ensures out { OnOk result (Appends (W.contents to.old) (W.contents to.new)
+        (list_within bytes.now events.old).out) }
+    ensures errors { OnOk result (Appends (E.contents errors.old) (E.contents errors.new)
+        (list_within bytes.now events.old).errors) }
+{
+    let unpacked = packed::restore(bytes, events);
+    write_unpacked(to, errors, unpacked, events)
+}
+
+#[tactic(auto, unfolding(crate::specs::Received::list_text))]
+fn receive<W: Write, E: Write>(to: &mut W, errors: &mut E, bytes: &[u8]) -> io::Result<()>
+    ensures out { OnOk result (Appends (W.contents to.old) (W.contents to.new)
+        (list_text bytes.now).out) }
+    ensures errors { OnOk result (Appends (E.contents errors.old) (E.contents errors.new)
+        (list_text bytes.now).errors) }
+{
+    let mut events = [0; EVENT_ROOM];
+    write_list(to, errors, bytes, &mut events)
 }
 
 // At most 65,536 bytes of input are a list.
@@ -69,12 +82,15 @@ pub fn receive_input<R: Read, W: Write, E: Write>(
     from: &mut R,
     to: &mut W,
     errors: &mut E,
-) -> io::Result<()> {
-    let mut bytes = [0u8; BYTES + 1];
-    let n = input::read_full(from, &mut bytes)?;
-    if BYTES < n {
-        errors.write_all(b"input over 65536 bytes\n")
-    } else {
-        receive(to, errors, &bytes[..n])
+) -> io::Result<()>
+    ensures out { IfSome (R.remaining from.old) (λ input. OnOk result
+        (Appends (W.contents to.old) (W.contents to.new) (received input).out)) }
+    ensures errors { IfSome (R.remaining from.old) (λ input. OnOk result
+        (Appends (E.contents errors.old) (E.contents errors.new) (received input).errors)) }
+{
+    let mut room = [0; BYTES + 1];
+    match input::read_short(from, &mut room)? {
+        Some(bytes) => receive(to, errors, bytes),
+        None => printing::write_over(errors, BYTES),
     }
 }

@@ -1,133 +1,93 @@
 #![tactic(auto)]
 // The fragment of a list of events: bytes of the sheet, one event, all events.
-ghost use Rattle.std.specs.Prelude.{◌≡◌, ◌+◌, ◌*◌, ◌≤◌, min, length};
+ghost use Rattle.std.specs.Prelude.{◌≡◌, ◌∷◌, [], ◌/◌, length, true};
 ghost use Rattle.reading.specs.Events.{event_numbers};
-ghost use Rattle.reading.specs.Labels.{part};
+ghost use Rattle.reading.specs.Labels.{part as part_of};
 ghost use Rattle.listing.specs.Listing.{listed};
-ghost use Rattle.output.specs.Written.{Wrote};
+ghost use Rattle.output.specs.Written.{Wrote, Adds};
 ghost use Rattle.markup.specs.Markup.{escape_by, entities, escaped, written, unless_raw, fragment};
 
-use output::Fill;
-use reading::{Event, kind};
+use output::Output;
+use reading::{EVENT_NUMBERS, Event, kind};
+
+// A byte that is written as it is.
+#[tactic(auto, unfolding(markup::specs::Markup::escape_by, markup::specs::Markup::entities))]
+fn plain(b: u8) -> bool
+    ensures { result ≡ true → escape_by entities b ≡ b ∷ [] }
+{
+    (b != b'&') & (b != b'<') & (b != b'>')
+}
 
 // A byte of the sheet.
-fn put_escaped(out: &mut [u8], at: usize, b: u8) -> Fill
-    requires { at ≤ length out.old }
-    ensures { Wrote out.old at (escape_by entities b) result out.new }
+#[tactic(auto, unfolding(markup::specs::Markup::escape_by, markup::specs::Markup::entities, classes::specs::Classes::bytes))]
+fn put_escaped(b: u8, out: &mut Output) -> Option<()>
+    ensures { Adds out.old (escape_by entities b) result out.new }
 {
-    if b == b'&' {
-        return output::put(out, at, b"&amp;");
+    match b {
+        b'&' => out.put(b"&amp;"),
+        b'<' => out.put(b"&lt;"),
+        b'>' => out.put(b"&gt;"),
+        _ => out.put_byte(b),
     }
-    if b == b'<' {
-        return output::put(out, at, b"&lt;");
-    }
-    if b == b'>' {
-        return output::put(out, at, b"&gt;");
-    }
-    output::put_byte(out, at, b)
 }
 
-// The smaller of two.
-fn smaller(to: usize, len: usize) -> usize
-    ensures { result ≡ min to len }
+// Bytes of the sheet.
+fn put_text(text: &[u8], out: &mut Output) -> Option<()>
+    ensures { Adds out.old (escaped text.now) result out.new }
 {
-    if len < to {
-        return len;
+    let mut rest = &text[out.put_while(text, plain)..];
+    while let Some((b, behind)) = rest.split_first() {
+        put_escaped(*b, out)?;
+        rest = &behind[out.put_while(behind, plain)..];
     }
-    to
-}
-
-// Bytes of the sheet, from a place to before another, as long as they have no entity and there is room: how many these are.
-fn put_plain(text: &[u8], from: usize, end: usize, out: &mut [u8], at: usize) -> usize
-    requires from_le_end { from ≤ end }
-    requires end_in_bounds { end ≤ length text.now }
-    requires at_in_bounds { at ≤ length out.old }
-    ensures result_bound { from + result ≤ end }
-    ensures wrote { Wrote out.old at (escaped (part text.now from (from + result))) (Fill.To (at + result)) out.new }
-{
-    let most = smaller(end - from, out.len() - at);
-    let mut k = 0;
-    while k < most {
-        let b = text[from + k];
-        if (b == b'&') | (b == b'<') | (b == b'>') {
-            return k;
-        }
-        out[at + k] = b;
-        k += 1;
-    }
-    k
+    Some(())
 }
 
 // The bytes of the sheet from a place to another, as far as there are any.
-fn put_part(text: &[u8], from: usize, to: usize, out: &mut [u8], at: usize) -> Fill
-    requires { at ≤ length out.old }
-    ensures { Wrote out.old at (escaped (part text.now from to)) result out.new }
+fn part(text: &[u8], from: usize, to: usize) -> &[u8]
+    ensures { result.now ≡ part_of text.now from to }
 {
-    let end = smaller(to, text.len());
-    let mut n = at;
-    let mut i = from;
-    while i < end {
-        let k = put_plain(text, i, end, out, n);
-        n += k;
-        i += k;
-        if i < end {
-            let Fill::To(next) = put_escaped(out, n, text[i]) else {
-                return Fill::Full;
-            };
-            n = next;
-            i += 1;
-        }
-    }
-    Fill::To(n)
+    let end = to.min(text.len());
+    &text[from.min(end)..end]
 }
 
 // What an event writes.
-fn put_event(text: &[u8], e: Event, out: &mut [u8], at: usize) -> Fill
-    requires { at ≤ length out.old }
-    ensures { Wrote out.old at (written text.now e) result out.new }
+#[tactic(auto, unfolding(markup::specs::Markup::tag, markup::specs::Markup::characters, markup::specs::Markup::escaped, markup::specs::Markup::find, markup::specs::Markup::breaking))]
+fn put_event(text: &[u8], e: Event, out: &mut Output) -> Option<()>
+    ensures { Adds out.old (written text.now e) result out.new }
 {
-    let k = e.kind;
-    if kind::EXIT <= k {
-        return tags::put_closing(out, at, k - kind::EXIT);
+    match e.kind {
+        kind::STR | kind::SYMBOL => {
+            put_text(part(text, e.start.0 as usize, e.end.0 as usize), out)
+        }
+        k if k < kind::ENTER => tags::put_atom(out, k),
+        k if k < kind::EXIT => tags::put_opening(out, k - kind::ENTER),
+        k => tags::put_closing(out, k - kind::EXIT),
     }
-    if kind::ENTER <= k {
-        return tags::put_opening(out, at, k - kind::ENTER);
-    }
-    if (k == kind::STR) | (k == kind::SYMBOL) {
-        let start = e.start;
-        let end = e.end;
-        return put_part(text, start.0 as usize, end.0 as usize, out, at);
-    }
-    tags::put_atom(out, at, k)
 }
 
 // What an event writes where so many raw parts are open before it.
-fn put_outside(text: &[u8], e: Event, raw: usize, out: &mut [u8], at: usize) -> Fill
-    requires { at ≤ length out.old }
-    ensures { Wrote out.old at (unless_raw raw (written text.now e)) result out.new }
+#[tactic(auto, unfolding(markup::specs::Markup::unless_raw))]
+fn put_outside(text: &[u8], e: Event, raw: usize, out: &mut Output) -> Option<()>
+    ensures { Adds out.old (unless_raw raw (written text.now e)) result out.new }
 {
-    if 0 < raw {
-        return Fill::To(at);
+    if raw == 0 {
+        put_event(text, e, out)
+    } else {
+        Some(())
     }
-    put_event(text, e, out, at)
 }
 
-// The fragment of the first n events of a room.
-pub fn render(text: &[u8], events: &[u32], n: usize, out: &mut [u8]) -> Fill
-    requires { n * event_numbers ≤ length events.now }
-    ensures { Wrote out.old 0 (fragment text.now (listed n events.now)) result out.new }
+// The fragment of the events of a room.
+pub fn render(text: &[u8], events: &[u32], room: &mut [u8]) -> Option<usize>
+    ensures { Wrote room.old 0 (fragment text.now (listed (length events.now / event_numbers) events.now)) result room.new }
 {
-    let mut at = 0;
+    let mut out = Output::new(room);
     let mut raw = 0;
-    let mut i = 0;
-    while i < n {
+    for i in 0..events.len() / EVENT_NUMBERS {
         let e = listing::event_at(events, i);
-        let Fill::To(next) = put_outside(text, e, raw, out, at) else {
-            return Fill::Full;
-        };
+        put_outside(text, e, raw, &mut out)?;
         raw = markup::raw_behind(raw, e.kind);
-        at = next;
-        i += 1;
     }
-    Fill::To(at)
+    Some(out.count())
 }

@@ -5,164 +5,107 @@
 use exports::{Counts, CursorNumbers, Scanned};
 use std::io;
 use std::io::{Read, Write};
-use stored::{Case, Report, fill, number_at};
+use stored::{Report, Sample};
 
-// Bit i of a pattern, which repeats.
+// Which tokens of a line are peeked at, and before which ones escapes are ignored: bit by bit, and
+// again from the 33rd token on.
+#[derive(Clone, Copy)]
+struct Patterns {
+    peeks: u64,
+    verbatim: u64,
+}
+
 fn bit(pattern: u64, i: u64) -> bool {
     (pattern >> (i % 32)) % 2 == 1
 }
 
-// The state before token i: with its flag, and peeked at where the pattern says so.
-fn before(line: &[u8], s: CursorNumbers, peeks: u64, verbatim: u64, i: u64) -> CursorNumbers {
-    let next = s.next;
-    let flagged = CursorNumbers {
-        pos: s.pos,
-        escape: s.escape,
-        verbatim: bit(verbatim, i),
-        next: next,
-    };
-    if bit(peeks, i) {
-        let peeked = exports::mivurakol_peek(line, flagged);
-        return peeked.state;
+impl Patterns {
+    // The state before token i: with its flag, and peeked at where the pattern says so.
+    fn before(self, line: &[u8], s: CursorNumbers, i: u64) -> CursorNumbers {
+        let flagged = CursorNumbers {
+            verbatim: bit(self.verbatim, i),
+            ..s
+        };
+        if bit(self.peeks, i) {
+            exports::mivurakol_peek(line, flagged).state
+        } else {
+            flagged
+        }
     }
-    flagged
+}
+
+fn byte(n: u64) -> u8 {
+    (n % 256) as u8
 }
 
 // The tokens of a line beside the stored ones.
-fn compare_tokens(
-    sample: &[u8],
-    from: usize,
-    line: &[u8],
-    peeks: u64,
-    verbatim: u64,
-    tokens: u64,
-) -> Case {
+fn replay_tokens(sample: &mut Sample) -> bool {
+    let peeks = sample.number();
+    let verbatim = sample.number();
+    let patterns = Patterns { peeks, verbatim };
+    let mut room = [0u8; 128];
+    let line = sample.list(&mut room, byte);
+    let tokens = sample.number();
     let mut s = exports::mivurakol_cursor(0, false);
-    let mut at = from;
     let mut same = true;
-    let mut i = 0u64;
-    while i < tokens {
-        let step = exports::mivurakol_next(line, before(line, s, peeks, verbatim, i));
-        let kind = number_at(sample, at);
-        let len = number_at(sample, kind.next);
-        let t = step.token;
-        same = same & (t.kind as u64 == kind.value) & (t.len as u64 == len.value);
+    for i in 0..tokens {
+        let step = exports::mivurakol_next(line, patterns.before(line, s, i));
+        same &= step.token.kind as u64 == sample.number();
+        same &= step.token.len as u64 == sample.number();
         s = step.state;
-        at = len.next;
-        i += 1;
     }
-    let last = exports::mivurakol_next(line, before(line, s, peeks, verbatim, tokens));
-    let none = last.token;
-    Case {
-        next: at,
-        same: same & (none.kind == 42),
-    }
+    let last = exports::mivurakol_next(line, patterns.before(line, s, tokens));
+    same & (last.token.kind == 42)
 }
 
-// The rest of a case of tokens, from the line's bytes on.
-fn replay_line(sample: &[u8], from: usize, line: &mut [u8], peeks: u64, verbatim: u64) -> Case {
-    let at = fill(sample, from, line);
-    let tokens = number_at(sample, at);
-    compare_tokens(sample, tokens.next, line, peeks, verbatim, tokens.value)
+// What a scan finds at the front of a line beside the stored answer.
+fn replay_scan<F: Fn(&[u8], usize) -> Scanned>(sample: &mut Sample, scan: F) -> bool
+    requires { F.IsAlwaysCallable scan }
+{
+    let mut room = [0u8; 128];
+    let s = scan(sample.list(&mut room, byte), 0);
+    let found = sample.number() == 1;
+    let len = sample.number();
+    (s.found == found) & (s.len as u64 == len)
 }
 
-fn replay_tokens(sample: &[u8], from: usize) -> Case {
-    let peeks = number_at(sample, from);
-    let verbatim = number_at(sample, peeks.next);
-    let count = number_at(sample, verbatim.next);
-    let mut line = [0u8; 128];
-    let n = (count.value % 129) as usize;
-    replay_line(
-        sample,
-        count.next,
-        &mut line[..n],
-        peeks.value,
-        verbatim.value,
-    )
+// The counts of a run beside the stored ones.
+fn replay_counts<F: Fn(usize) -> Counts>(sample: &mut Sample, split: F) -> bool
+    requires { F.IsAlwaysCallable split }
+{
+    let c = split(sample.number() as usize);
+    let first = sample.number();
+    let second = sample.number();
+    (c.first as u64 == first) & (c.second as u64 == second)
 }
 
-fn scan_of(sort: u64, line: &[u8]) -> Scanned {
-    match sort {
-        1 => exports::mivurakol_autolink(line, 0),
-        2 => exports::mivurakol_symbol(line, 0),
-        3 => exports::mivurakol_footnote(line, 0),
-        _ => exports::mivurakol_raw_format(line, 0),
+fn replay_case(sample: &mut Sample) -> bool {
+    match sample.number() {
+        0 => replay_tokens(sample),
+        1 => replay_scan(sample, exports::mivurakol_autolink),
+        2 => replay_scan(sample, exports::mivurakol_symbol),
+        3 => replay_scan(sample, exports::mivurakol_footnote),
+        4 => replay_scan(sample, exports::mivurakol_raw_format),
+        5 => replay_counts(sample, exports::mivurakol_hyphens),
+        _ => replay_counts(sample, exports::mivurakol_periods),
     }
-}
-
-// The rest of a case of a scan, from the line's bytes on.
-fn compare_scan(sample: &[u8], from: usize, line: &mut [u8], sort: u64) -> Case {
-    let at = fill(sample, from, line);
-    let s = scan_of(sort, line);
-    let found = number_at(sample, at);
-    let len = number_at(sample, found.next);
-    let same = (s.found == (found.value == 1)) & (s.len as u64 == len.value);
-    Case {
-        next: len.next,
-        same: same,
-    }
-}
-
-fn replay_scan(sample: &[u8], from: usize, sort: u64) -> Case {
-    let count = number_at(sample, from);
-    let mut line = [0u8; 128];
-    let n = (count.value % 129) as usize;
-    compare_scan(sample, count.next, &mut line[..n], sort)
-}
-
-fn counts_of(sort: u64, len: usize) -> Counts {
-    if sort == 5 {
-        return exports::mivurakol_hyphens(len);
-    }
-    exports::mivurakol_periods(len)
-}
-
-fn replay_counts(sample: &[u8], from: usize, sort: u64) -> Case {
-    let len = number_at(sample, from);
-    let first = number_at(sample, len.next);
-    let second = number_at(sample, first.next);
-    let c = counts_of(sort, len.value as usize);
-    let same = (c.first as u64 == first.value) & (c.second as u64 == second.value);
-    Case {
-        next: second.next,
-        same: same,
-    }
-}
-
-fn replay_case(sample: &[u8], from: usize) -> Case {
-    let sort = number_at(sample, from);
-    let kind = sort.value;
-    if kind == 0 {
-        return replay_tokens(sample, sort.next);
-    }
-    if kind < 5 {
-        return replay_scan(sample, sort.next, kind);
-    }
-    replay_counts(sample, sort.next, kind)
 }
 
 // Each case is at least one byte.
-fn replay(sample: &[u8]) -> Report {
-    let mut at = 0;
-    let mut left = sample.len();
-    let mut cases = 0u64;
-    let mut differ = 0u64;
-    while 0 < left {
-        if sample.len() <= at {
+fn replay(bytes: &[u8]) -> Report {
+    let mut sample = Sample { bytes, at: 0 };
+    let mut cases = 0;
+    let mut differ = 0;
+    for _ in 0..bytes.len() {
+        if bytes.len() <= sample.at {
             break;
         }
-        let c = replay_case(sample, at);
-        at = c.next;
-        left -= 1;
         cases += 1;
-        if !c.same {
+        if !replay_case(&mut sample) {
             differ += 1;
         }
     }
-    Report {
-        cases: cases,
-        differ: differ,
-    }
+    Report { cases, differ }
 }
 
 // The report of what an input holds, of which no more than the room is read.
@@ -172,6 +115,6 @@ fn replay_input<R: Read, W: Write>(from: &mut R, to: &mut W, room: &mut [u8]) ->
 }
 
 fn main(rt: HostRuntime) -> io::Result<()> {
-    let mut sample = [0u8; 524288];
-    replay_input(&mut rt.reader(), &mut io::writer(&rt), &mut sample)
+    let mut room = [0u8; 524288];
+    replay_input(&mut rt.reader(), &mut io::writer(&rt), &mut room)
 }

@@ -1,34 +1,190 @@
 -- One change after another, and what a change says of the parser's own numbers.
-use Prim.Native.Nat.{ℕ, ◌≤◌}
-use mathlib.Core.Path.{◌≡◌, sym, ap, ◌∙◌, subst}
-use mathlib.Core.List.{List, []}
+use Prim.Native.Nat.{ℕ}
+use mathlib.Core.Path.{◌≡◌, refl, sym, ap, ◌∙◌}
+use mathlib.Core.List.{List}
+use Rattle.std.specs.Borrow.{MutBor}
 use lib.ListN.{length}
+use Rattle.lex.specs.declared.lex.Cursor.{Cursor}
 use Rattle.reading.specs.Machine.{State, Turn}
 use Rattle.rooms.specs.declared.Parser.{Parser}
 use Rattle.rooms.specs.Records.{event_at, opener_at}
-use Rattle.rooms.specs.Standing.{stands, Changed, Stepped}
+use Rattle.rooms.specs.Steps.{state, turn, Lent, Stepped, Changed, Queued, staying}
 use Rattle.rooms.proofs.Rows.{rows-length, stack-length}
 
-module _ (p : Parser) (q o : List ℕ) (r : Parser) (q' o' : List ℕ) (f : State → Turn) (c : Changed p q o r q' o' f) where
-  -- the cursor, and the counts of records
-  pub changed-cursor : r.cursor ≡ (f (stands p q o [])).cursor
-  changed-cursor = ap (λ (a : Turn). a.cursor) (c.same [])
+-- as many events as are counted
+pub queue_long : (p : Parser) → length (state p).queue ≡ p.at.events
+queue_long p = rows-length event_at p.at.events p.queue.now
 
-  pub changed-events : r.events ≡ length (f (stands p q o [])).state.queue
-  changed-events = sym (rows-length event_at r.events q') ∙ ap (λ (a : Turn). length a.state.queue) (c.same [])
+-- the rooms are still those that were lent
+pub lent-then : (p r t : Parser) → Lent p r → Lent r t → Lent p t
+lent-then p r t a b =
+    record {
+      queue = b.queue ∙ a.queue;
+      openers = b.openers ∙ a.openers;
+      labels = b.labels ∙ a.labels;
+      queue_length = b.queue_length ∙ a.queue_length;
+      openers_length = b.openers_length ∙ a.openers_length;
+      labels_length = b.labels_length ∙ a.labels_length;
+    }
 
-  pub changed-openers : r.openers ≡ length (f (stands p q o [])).state.openers
-  changed-openers = sym (stack-length opener_at r.openers o') ∙ ap (λ (a : Turn). length a.state.openers) (c.same [])
+-- and are those of a parser with the same rooms
+pub lent-as : (p r t : Parser) → Lent p r → t.queue ≡ r.queue → t.openers ≡ r.openers → t.labels ≡ r.labels → Lent p t
+lent-as p r t l q o b =
+    record {
+      queue = ap (λ (x : MutBor (List ℕ)). x.ghost_name) q ∙ l.queue;
+      openers = ap (λ (x : MutBor (List ℕ)). x.ghost_name) o ∙ l.openers;
+      labels = ap (λ (x : MutBor (List ℕ)). x.ghost_name) b ∙ l.labels;
+      queue_length = ap (λ (x : MutBor (List ℕ)). length x.now) q ∙ l.queue_length;
+      openers_length = ap (λ (x : MutBor (List ℕ)). length x.now) o ∙ l.openers_length;
+      labels_length = ap (λ (x : MutBor (List ℕ)). length x.now) b ∙ l.labels_length;
+    }
 
-  -- another change behind it
-  pub then : (t : Parser) (q'' o'' : List ℕ) (g h : State → Turn) → Changed r q' o' t q'' o'' g → ((s : State) → g (f s).state ≡ h s)
-      → Changed p q o t q'' o'' h
-  then t q'' o'' g h d e =
+module _ (p r : Parser) (f : State → Turn) where
+  -- a change of the queue alone, and of the openers alone
+  pub queue-step : turn r ≡ f (state p) → r.queue.ghost_name ≡ p.queue.ghost_name → length r.queue.now ≡ length p.queue.now
+      → r.openers ≡ p.openers → r.labels ≡ p.labels → r.at.openers ≡ p.at.openers → r.at.labels ≡ p.at.labels → Queued p r f
+  queue-step same name long os ls n k =
       record {
-        same = λ l. d.same l ∙ ap (λ (a : Turn). g a.state) (c.same l) ∙ e (stands p q o l);
-        labels = d.labels ∙ c.labels;
+        changed = record {
+          same = same;
+          lent = record {
+            queue = name;
+            openers = ap (λ (x : MutBor (List ℕ)). x.ghost_name) os;
+            labels = ap (λ (x : MutBor (List ℕ)). x.ghost_name) ls;
+            queue_length = long;
+            openers_length = ap (λ (x : MutBor (List ℕ)). length x.now) os;
+            labels_length = ap (λ (x : MutBor (List ℕ)). length x.now) ls;
+          };
+          labels = k;
+          label_room = ap (λ (x : MutBor (List ℕ)). x.now) ls;
+        };
+        openers = n;
+        opener_room = ap (λ (x : MutBor (List ℕ)). x.now) os;
       }
 
-  -- it leaves the label room as it is
-  pub changed-stepped : (l : List ℕ) → p.labels ≤ length l → Stepped p q o l r q' o' l f
-  changed-stepped l h = record { same = c.same l; labels = subst (λ (n : ℕ). n ≤ length l) (sym c.labels) h }
+  pub openers-step : turn r ≡ f (state p) → r.openers.ghost_name ≡ p.openers.ghost_name → length r.openers.now ≡ length p.openers.now
+      → r.queue ≡ p.queue → r.labels ≡ p.labels → r.at.labels ≡ p.at.labels → Changed p r f
+  openers-step same name long qs ls k =
+      record {
+        same = same;
+        lent = record {
+          queue = ap (λ (x : MutBor (List ℕ)). x.ghost_name) qs;
+          openers = name;
+          labels = ap (λ (x : MutBor (List ℕ)). x.ghost_name) ls;
+          queue_length = ap (λ (x : MutBor (List ℕ)). length x.now) qs;
+          openers_length = long;
+          labels_length = ap (λ (x : MutBor (List ℕ)). length x.now) ls;
+        };
+        labels = k;
+        label_room = ap (λ (x : MutBor (List ℕ)). x.now) ls;
+      }
+
+  module _ (c : Stepped p r f) where
+    -- the cursor, and the counts of records
+    pub stepped-cursor : r.at.cursor ≡ (f (state p)).cursor
+    stepped-cursor = ap (λ (a : Turn). a.cursor) c.same
+
+    pub stepped-events : r.at.events ≡ length (f (state p)).state.queue
+    stepped-events = sym (rows-length event_at r.at.events r.queue.now) ∙ ap (λ (a : Turn). length a.state.queue) c.same
+
+    pub stepped-openers : r.at.openers ≡ length (f (state p)).state.openers
+    stepped-openers = sym (stack-length opener_at r.at.openers r.openers.now) ∙ ap (λ (a : Turn). length a.state.openers) c.same
+
+    -- what it does, told otherwise
+    pub stepped-as : (g : State → Turn) → f (state p) ≡ g (state p) → Stepped p r g
+    stepped-as g e = record { same = c.same ∙ e; lent = c.lent }
+
+    -- another step behind it
+    pub stepped-then : (t : Parser) (g h : State → Turn) → Stepped r t g → g (f (state p)).state ≡ h (state p) → Stepped p t h
+    stepped-then t g h d e =
+        record { same = d.same ∙ ap (λ (a : Turn). g a.state) c.same ∙ e; lent = lent-then p r t c.lent d.lent }
+
+  module _ (c : Changed p r f) where
+    pub changed-stepped : Stepped p r f
+    changed-stepped = record { same = c.same; lent = c.lent }
+
+    pub changed-as : (g : State → Turn) → f (state p) ≡ g (state p) → Changed p r g
+    changed-as g e = record { same = c.same ∙ e; lent = c.lent; labels = c.labels; label_room = c.label_room }
+
+    pub changed-then : (t : Parser) (g h : State → Turn) → Changed r t g → g (f (state p)).state ≡ h (state p) → Changed p t h
+    changed-then t g h d e =
+        record {
+          same = d.same ∙ ap (λ (a : Turn). g a.state) c.same ∙ e;
+          lent = lent-then p r t c.lent d.lent;
+          labels = d.labels ∙ c.labels;
+          label_room = d.label_room ∙ c.label_room;
+        }
+
+  module _ (c : Queued p r f) where
+    pub queued-as : (g : State → Turn) → f (state p) ≡ g (state p) → Queued p r g
+    queued-as g e = record { changed = changed-as c.changed g e; openers = c.openers; opener_room = c.opener_room }
+
+    pub queued-then : (t : Parser) (g h : State → Turn) → Queued r t g → g (f (state p)).state ≡ h (state p) → Queued p t h
+    queued-then t g h d e =
+        record {
+          changed = changed-then c.changed t g h d.changed e;
+          openers = d.openers ∙ c.openers;
+          opener_room = d.opener_room ∙ c.opener_room;
+        }
+
+-- a step, and a change of the queue, of another parser with the same rooms
+pub lent-same : (p u : Parser) → u.queue ≡ p.queue → u.openers ≡ p.openers → u.labels ≡ p.labels → Lent p u
+lent-same p u q o l =
+    record {
+      queue = ap (λ (x : MutBor (List ℕ)). x.ghost_name) q;
+      openers = ap (λ (x : MutBor (List ℕ)). x.ghost_name) o;
+      labels = ap (λ (x : MutBor (List ℕ)). x.ghost_name) l;
+      queue_length = ap (λ (x : MutBor (List ℕ)). length x.now) q;
+      openers_length = ap (λ (x : MutBor (List ℕ)). length x.now) o;
+      labels_length = ap (λ (x : MutBor (List ℕ)). length x.now) l;
+    }
+
+-- nothing happens
+pub stepped-still : (p : Parser) (f : State → Turn) → turn p ≡ f (state p) → Stepped p p f
+stepped-still p f e = record { same = e; lent = lent-same p p refl refl refl }
+
+pub queued-still : (p : Parser) (f : State → Turn) → turn p ≡ f (state p) → Queued p p f
+queued-still p f e = queue-step p p f e refl refl refl refl refl refl
+
+pub stepped-from : (p u r : Parser) (f g : State → Turn) → Stepped u r f → u.queue ≡ p.queue → u.openers ≡ p.openers → u.labels ≡ p.labels
+    → f (state u) ≡ g (state p) → Stepped p r g
+stepped-from p u r f g c q o l e = record { same = c.same ∙ e; lent = lent-then p u r (lent-same p u q o l) c.lent }
+
+pub queued-from : (p u r : Parser) (f g : State → Turn) → Queued u r f → u.queue ≡ p.queue → u.openers ≡ p.openers → u.labels ≡ p.labels
+    → u.at.openers ≡ p.at.openers → u.at.labels ≡ p.at.labels → f (state u) ≡ g (state p) → Queued p r g
+queued-from p u r f g c q o l n k e =
+    record {
+      changed = record {
+        same = c.changed.same ∙ e;
+        lent = lent-then p u r (lent-same p u q o l) c.changed.lent;
+        labels = c.changed.labels ∙ k;
+        label_room = c.changed.label_room ∙ ap (λ (x : MutBor (List ℕ)). x.now) l;
+      };
+      openers = c.openers ∙ n;
+      opener_room = c.opener_room ∙ ap (λ (x : MutBor (List ℕ)). x.now) o;
+    }
+
+-- a change of the queue, and other marks on the parser with the same rooms and counts
+pub queued-to : (p r t : Parser) (f g : State → Turn) → Queued p r f → t.queue ≡ r.queue → t.openers ≡ r.openers → t.labels ≡ r.labels
+    → t.at.openers ≡ r.at.openers → t.at.labels ≡ r.at.labels → turn t ≡ g (state p) → Queued p t g
+queued-to p r t f g c q o l n k same =
+    record {
+      changed = record {
+        same = same;
+        lent = lent-as p r t c.changed.lent q o l;
+        labels = k ∙ c.changed.labels;
+        label_room = ap (λ (x : MutBor (List ℕ)). x.now) l ∙ c.changed.label_room;
+      };
+      openers = n ∙ c.openers;
+      opener_room = ap (λ (x : MutBor (List ℕ)). x.now) o ∙ c.opener_room;
+    }
+
+-- one change behind another, both of which keep the cursor
+module _ (p r t : Parser) (f g : State → State) where
+  pub queued-on : Queued p r (staying p f) → Queued r t (staying r g) → Queued p t (staying p (λ s. g (f s)))
+  queued-on c d =
+      queued-then p r _ c t _ _ d (ap (λ (k : Cursor). record { cursor = k; state = g (f (state p)) }) (stepped-cursor p r _ (changed-stepped p r _ c.changed)))
+
+  pub changed-on : Changed p r (staying p f) → Changed r t (staying r g) → Changed p t (staying p (λ s. g (f s)))
+  changed-on c d =
+      changed-then p r _ c t _ _ d (ap (λ (k : Cursor). record { cursor = k; state = g (f (state p)) }) (stepped-cursor p r _ (changed-stepped p r _ c)))

@@ -9,8 +9,9 @@ use lib.ListN.{length, get_or, set, length-set}
 use lib.Seq.{sets, ext_get_or, get_or-set_same, get_or-set_other}
 use Rattle.reading.specs.declared.Event.{Event}
 use Rattle.reading.specs.Machine.{amend}
+use Rattle.reading.specs.Questions.{record_of}
 use Rattle.reading.proofs.Ends.{amend-out}
-use Rattle.rooms.specs.Records.{event_at, events, encode}
+use Rattle.rooms.specs.Records.{event_at, events}
 use Rattle.rooms.proofs.Rows.{rows-length, rows_same, rows_at, rows_more, sets-before, sets-after, sets-at}
 
 -- `amend` within a list
@@ -62,7 +63,7 @@ same-event a b i h =
 
 module _ (room : List ℕ) (n : ℕ) (e : Event) (fits : n * 8 + 8 ≤ length room) where
   -- an event that was stored is read back
-  stored : event_at (sets room (n * 8) (encode e)) n ≡ e
+  stored : event_at (sets room (n * 8) (record_of e)) n ≡ e
   stored =
       λ t. record {
         kind = first t;
@@ -74,26 +75,26 @@ module _ (room : List ℕ) (n : ℕ) (e : Event) (fits : n * 8 + 8 ≤ length ro
         link = record { 0 = at 6 (omega arith) t };
       }
     where
-      at : (k : ℕ) → k < 8 → get_or (sets room (n * 8) (encode e)) (n * 8 + k) 0 ≡ get_or (encode e) k 0
-      at k h = sets-at room (n * 8) (encode e) k h fits
+      at : (k : ℕ) → k < 7 → get_or (sets room (n * 8) (record_of e)) (n * 8 + k) 0 ≡ get_or (record_of e) k 0
+      at k h = sets-at room (n * 8) (record_of e) k h (omega (arith, fits))
 
-      first : get_or (sets room (n * 8) (encode e)) (n * 8) 0 ≡ e.kind
+      first : get_or (sets room (n * 8) (record_of e)) (n * 8) 0 ≡ e.kind
       first = rw add-zero at (at 0 (omega arith))
 
   -- stores past the first n events leave them
-  pub pushed : events (suc n) (sets room (n * 8) (encode e)) ≡ events n room ++ (e ∷ [])
+  pub pushed : events (suc n) (sets room (n * 8) (record_of e)) ≡ events n room ++ (e ∷ [])
   pushed =
-      rows_more event_at n room (sets room (n * 8) (encode e))
-      (λ i l. same-event (sets room (n * 8) (encode e)) room i (λ k lo hi. sets-before room (n * 8) (encode e) k (omega arith)))
+      rows_more event_at n room (sets room (n * 8) (record_of e))
+      (λ i l. same-event (sets room (n * 8) (record_of e)) room i (λ k lo hi. sets-before room (n * 8) (record_of e) k (omega arith)))
       ∙ ap (λ (x : Event). events n room ++ (x ∷ [])) stored
 
   -- stores over one event leave the others
   pub replaced : (f : Event → Event) → e ≡ f (event_at room n) → (m : ℕ)
-      → events m (sets room (n * 8) (encode e)) ≡ amend f n (events m room)
+      → events m (sets room (n * 8) (record_of e)) ≡ amend f n (events m room)
   replaced f is m =
-      rows-amend f m room (sets room (n * 8) (encode e)) n (stored ∙ is)
-      (λ j ne. same-event (sets room (n * 8) (encode e)) room j (λ k lo hi. apart k (dec_lt k (n * 8)) (omega arith)))
+      rows-amend f m room (sets room (n * 8) (record_of e)) n (stored ∙ is)
+      (λ j ne. same-event (sets room (n * 8) (record_of e)) room j (λ k lo hi. apart k (dec_lt k (n * 8)) (omega arith)))
     where
-      apart : (k : ℕ) → Dec (k < n * 8) → (n * 8 ≤ k → n * 8 + 8 ≤ k) → get_or (sets room (n * 8) (encode e)) k 0 ≡ get_or room k 0
-      apart k (yes h) far = sets-before room (n * 8) (encode e) k h
-      apart k (no h) far = sets-after room (n * 8) (encode e) k (far (omega arith))
+      apart : (k : ℕ) → Dec (k < n * 8) → (n * 8 ≤ k → n * 8 + 8 ≤ k) → get_or (sets room (n * 8) (record_of e)) k 0 ≡ get_or room k 0
+      apart k (yes h) far = sets-before room (n * 8) (record_of e) k h
+      apart k (no h) far = sets-after room (n * 8) (record_of e) k (omega (arith, far (omega arith)))

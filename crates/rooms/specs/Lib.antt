@@ -1,3 +1,4 @@
 pub mod Rows
 pub mod Records
 pub mod Standing
+pub mod Steps

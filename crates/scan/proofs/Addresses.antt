@@ -1,4 +1,5 @@
 -- An address up to its first mark, and from there on.
+use Rattle.std.specs.Prelude.{None}
 use Prim.Native.Nat.{ℕ, suc, ◌+◌, ◌-◌, ◌≤◌}
 use mathlib.Core.Path.{◌≡◌, refl, sym, ap, ◌∙◌}
 use mathlib.Core.List.{List, [], ◌∷◌}
@@ -12,7 +13,6 @@ use Rattle.classes.specs.declared.Set.TheVariants.{Address, Unmarked}
 use Rattle.classes.specs.Sets.{in_set, run}
 use Rattle.classes.proofs.Runs.{run-stop, run_more}
 use Rattle.classes.proofs.Parts.{part-from}
-use Rattle.scan.specs.declared.Ahead.TheVariants.{None}
 use Rattle.scan.specs.Scans.{closed_at, upto_of, mark, marked, autolink_of}
 
 -- an unmarked byte of an address

@@ -1,4 +1,5 @@
 -- The byte that closes a scan, and a raw format.
+use Rattle.std.specs.Prelude.{None, Some}
 use Prim.Native.Nat.{ℕ, ◌≤◌, ◌<◌}
 use mathlib.Core.Path.{◌≡◌, refl, sym, ◌∙◌}
 use mathlib.Core.List.{List}
@@ -10,7 +11,6 @@ use lib.ListN.{length, get_or, get_or-eq_default}
 use Rattle.classes.specs.declared.Set.TheVariants.{Format}
 use Rattle.classes.specs.Sets.{in_set, run}
 use Rattle.classes.proofs.Parts.{stands}
-use Rattle.scan.specs.declared.Ahead.TheVariants.{Some, None}
 use Rattle.scan.specs.Scans.{closed_at, upto_of, raw_format_of}
 
 module _ (s : List ℕ) (n close : ℕ) where

@@ -1,4 +1,5 @@
 -- The laws of the scans that their callers cite: what is accepted ends before the line does, at the byte that closes.
+use Rattle.std.specs.Prelude.{None, Option, Some}
 use Prim.Native.Nat.{ℕ, ◌≤◌, ◌<◌}
 use mathlib.Core.Path.{◌≡◌, refl, sym, ap, ◌∙◌}
 use mathlib.Core.List.{List}
@@ -11,8 +12,6 @@ use lib.ListN.{length, take, get_or}
 use Rattle.classes.specs.declared.Set.{Set}
 use Rattle.classes.specs.declared.Set.TheVariants.{Address, Name, Label, Format}
 use Rattle.classes.specs.Sets.{in_set, run}
-use Rattle.scan.specs.declared.Ahead.{Ahead}
-use Rattle.scan.specs.declared.Ahead.TheVariants.{Some, None}
 use Rattle.scan.specs.Scans.{upto_of, marked, autolink_of, symbol_of, footnote_of, raw_format_of}
 use Rattle.scan.proofs.Closing.{closed_some}
 
@@ -23,7 +22,7 @@ pub record Accepted (set : Set) (close : ℕ) (s : List ℕ) (n : ℕ) : Type 0 
   pub closes : get_or s n 0 ≡ close
 
 -- a scan that is tried, or not
-tried : (x : Bool) (a : Ahead) (n : ℕ) → (elim x as (λ _. Ahead) [ true ↦ a | false ↦ None ]) ≡ Some n → a ≡ Some n
+tried : (x : Bool) (a : Option ℕ) (n : ℕ) → (elim x as (λ _. Option ℕ) [ true ↦ a | false ↦ None ]) ≡ Some n → a ≡ Some n
 tried true a n e = e
 tried false a n e = cc
 

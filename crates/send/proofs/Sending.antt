@@ -33,7 +33,7 @@ module _ (text : List ℕ) (ls : List Line) (rooms : Rooms) (read : Outcome) (is
     zero = ap (λ (p : Outcome). p.answer.code) (sym is) ∙ e
 
     -- as many events as are handed out stand in their room
-    pub handed_out : read.answer.events * event_numbers ≤ length read.rooms.events
+    handed_out : read.answer.events * event_numbers ≤ length read.rooms.events
     handed_out =
         let w = events-within text ls 0 rooms zero in
         omega (arith, w, ap (λ (p : Outcome). p.answer.events) is, ap (λ (p : Outcome). length p.rooms.events) is)

@@ -1,44 +1,41 @@
 #![tactic(auto)]
 // The program behind `./pack`: a sheet of its input is read, and the list of its events is written,
 // packed, or else why there is none.
-ghost use Rattle.std.specs.Prelude.{◌≡◌, ◌/◌, ◌≤◌, length, take};
+ghost use Rattle.std.specs.Prelude.{◌≡◌, ◌/◌, ◌≤◌, length, OnOk, IfSome};
+ghost use Rattle.std.specs.Io.KnownBytes.{Appends};
 ghost use Rattle.reading.specs.Events.{event_numbers};
 ghost use Rattle.reading.specs.Questions.{outcome};
-ghost use Rattle.outcome.specs.Outcomes.{rooms_of};
 ghost use Rattle.packed.specs.Calls.{call, enough_bytes};
-ghost use Rattle.send.specs.Sent.{sent};
+ghost use Rattle.input.specs.Rooms.{lent};
+ghost use Rattle.send.specs.Sent.{sent, answer_text, packed_within, packed_text, sent_text};
 
-use input::BYTES;
+use input::{BYTES, SheetRooms};
 use packed::PackedAnswer;
+use printing::Refusal;
 use reading::{EVENT_NUMBERS, Line};
-use show::{EVENT_ROOM, LABEL_ROOM, OPENER_ROOM, QUEUE_ROOM};
 use std::io;
 use std::io::{Read, Write};
 
 // So many bytes hold any list that the event room holds.
 const LIST_ROOM: usize = 27 * (BYTES + 1) + 5;
 
-// The packed list of the first n lines of a room, in reading 0. It is refused as the reader does,
-// and for nothing else.
-fn pack_lines(
-    text: &[u8],
-    lines: [Line; BYTES],
-    n: usize,
-    events: &mut [u32],
-    queue: &mut [u32],
-    openers: &mut [u32],
-    labels: &mut [u8],
-    out: &mut [u8],
-) -> PackedAnswer
-    requires n_bound { n ≤ 1000 }
-    requires event_numbers_in_bounds { enough_bytes (length events.old / event_numbers)
-        ≤ length out.old }
-    ensures as_defined { call result out.new ≡ sent (outcome text.now (take n lines) 0
-        (rooms_of events.old queue.old openers.old labels.old)) out.old }
-    ensures code_value { result.code ≡ (outcome text.now (take n lines) 0
-        (rooms_of events.old queue.old openers.old labels.old)).answer.code }
+// The packed list of some lines, in reading 0. It is refused as the reader does, and for nothing
+// else.
+fn pack_lines(text: &[u8], lines: &[Line], rooms: &mut SheetRooms, out: &mut [u8]) -> PackedAnswer
+    requires { enough_bytes (length rooms.old.events / event_numbers) ≤ length out.old }
+    ensures as_defined { call result out.new ≡ sent (outcome text.now lines.now 0
+        (lent rooms.old)) out.old }
+    ensures code_value { result.code ≡ (outcome text.now lines.now 0 (lent rooms.old)).answer.code }
 {
-    let answer = show::read_lines(text, lines, n, events, queue, openers, labels);
+    let answer = records::read(
+        text,
+        lines,
+        0,
+        &mut rooms.events,
+        &mut rooms.queue,
+        &mut rooms.openers,
+        &mut rooms.labels,
+    );
     if answer.code != 0 {
         return PackedAnswer {
             code: answer.code,
@@ -47,49 +44,59 @@ fn pack_lines(
         };
     }
     let numbers = answer.events as usize * EVENT_NUMBERS;
-    packed::pack(&events[..numbers], out)
+    packed::pack(printing::front(&rooms.events, numbers), out)
 }
 
-// The packed list of the lines of a text, in the rooms of the program.
-fn send_lines<W: Write, E: Write>(
+// What is answered: the bytes of the list, or why there is none.
+fn write_answer<W: Write, E: Write>(
     to: &mut W,
     errors: &mut E,
-    text: &[u8],
-    lines: [Line; BYTES],
-    n: usize,
+    answer: PackedAnswer,
+    out: &[u8],
 ) -> io::Result<()>
-    requires { n ≤ 1000 }
+    ensures out { OnOk result (Appends (W.contents to.old) (W.contents to.new)
+        (answer_text answer out.now).out) }
+    ensures errors { OnOk result (Appends (E.contents errors.old) (E.contents errors.new)
+        (answer_text answer out.now).errors) }
 {
-    let mut events = [0u32; EVENT_ROOM];
-    let mut queue = [0u32; QUEUE_ROOM];
-    let mut openers = [0u32; OPENER_ROOM];
-    let mut labels = [0u8; LABEL_ROOM];
-    let mut out = [0u8; LIST_ROOM];
-    let answer = pack_lines(
-        text,
-        lines,
-        n,
-        &mut events,
-        &mut queue,
-        &mut openers,
-        &mut labels,
-        &mut out,
-    );
-    if answer.code != 0 {
-        printing::say_place(errors, answer.code, answer.place)?;
-        printing::say_reader(errors, answer.code)
+    if answer.code == 0 {
+        to.write_all(printing::front(out, answer.count as usize))
     } else {
-        printing::write_bytes(to, &out, answer.count as usize)
+        printing::write_refused(errors, answer.code, answer.place, &Refusal(answer.code))
     }
 }
 
+// The packed list of a sheet, in reading 0, by way of an output room.
+fn write_packed<W: Write, E: Write>(
+    to: &mut W,
+    errors: &mut E,
+    text: &[u8],
+    out: &mut [u8],
+) -> io::Result<()>
+    requires short { length text.now ≤ 1000 }
+    requires room { 27032 ≤ length out.old }
+    ensures out { OnOk result (Appends (W.contents to.old) (W.contents to.new)
+        (packed_within text.now out.old).out) }
+    ensures errors { OnOk result (Appends (E.contents errors.old) (E.contents errors.new)
+        (packed_within text.now out.old).errors) }
+{
+    let mut room = [Line { start: 0, end: 0 }; BYTES];
+    let lines = input::split_lines(text, &mut room);
+    let mut rooms = SheetRooms::new();
+    let answer = pack_lines(text, lines, &mut rooms, out);
+    write_answer(to, errors, answer, out)
+}
+
+#[tactic(auto, unfolding(crate::specs::Sent::packed_text))]
 fn send<W: Write, E: Write>(to: &mut W, errors: &mut E, text: &[u8]) -> io::Result<()>
     requires { length text.now ≤ 1000 }
+    ensures out { OnOk result (Appends (W.contents to.old) (W.contents to.new)
+        (packed_text text.now).out) }
+    ensures errors { OnOk result (Appends (E.contents errors.old) (E.contents errors.new)
+        (packed_text text.now).errors) }
 {
-    let split = input::split_lines(text);
-    let lines = split.lines;
-    let n = split.count;
-    send_lines(to, errors, text, lines, n)
+    let mut out = [0; LIST_ROOM];
+    write_packed(to, errors, text, &mut out)
 }
 
 // At most 1,000 bytes of input are a sheet.
@@ -97,12 +104,15 @@ pub fn send_input<R: Read, W: Write, E: Write>(
     from: &mut R,
     to: &mut W,
     errors: &mut E,
-) -> io::Result<()> {
-    let mut text = [0u8; BYTES + 1];
-    let n = input::read_full(from, &mut text)?;
-    if BYTES < n {
-        errors.write_all(b"input over 1000 bytes\n")
-    } else {
-        send(to, errors, &text[..n])
+) -> io::Result<()>
+    ensures out { IfSome (R.remaining from.old) (λ input. OnOk result
+        (Appends (W.contents to.old) (W.contents to.new) (sent_text input).out)) }
+    ensures errors { IfSome (R.remaining from.old) (λ input. OnOk result
+        (Appends (E.contents errors.old) (E.contents errors.new) (sent_text input).errors)) }
+{
+    let mut room = [0; BYTES + 1];
+    match input::read_short(from, &mut room)? {
+        Some(text) => send(to, errors, text),
+        None => printing::write_over(errors, BYTES),
     }
 }

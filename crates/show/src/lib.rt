@@ -1,83 +1,49 @@
 #![tactic(auto)]
 // The program behind `./sheet`: a sheet of its input is read, and its events and the answer are
 // printed.
-ghost use Rattle.std.specs.Prelude.{◌≡◌, ◌≤◌, length, take};
-ghost use Rattle.reading.specs.Questions.{outcome};
-ghost use Rattle.outcome.specs.Outcomes.{rooms_of, outcome_of};
+ghost use Rattle.std.specs.Prelude.{◌≤◌, length, OnOk, IfSome};
+ghost use Rattle.std.specs.Io.KnownBytes.{Appends};
+ghost use Rattle.show.specs.Shown.{sheet_text, shown};
 
-use input::BYTES;
-use reading::{Answer, EVENT_NUMBERS, Line, OPENER_NUMBERS, QUEUE_NUMBERS};
+use input::{BYTES, SheetRooms};
+use reading::{EVENT_NUMBERS, Line};
 use std::io;
 use std::io::{Read, Write};
 
-// The program's rooms.
-pub const EVENT_ROOM: usize = (BYTES + 1) * EVENT_NUMBERS;
-
-pub const QUEUE_ROOM: usize = (2 * BYTES + 1) * QUEUE_NUMBERS;
-
-pub const OPENER_ROOM: usize = BYTES * OPENER_NUMBERS;
-
-pub const LABEL_ROOM: usize = 65536;
-
-fn write_answer<W: Write>(to: &mut W, answer: Answer) -> io::Result<()> {
-    let numbers = [answer.code, answer.place, answer.events, answer.labels];
-    printing::write_line(to, &numbers)
-}
-
-// Reads the first n lines of a room, in reading 0.
-pub fn read_lines(
-    text: &[u8],
-    lines: [Line; BYTES],
-    n: usize,
-    events: &mut [u32],
-    queue: &mut [u32],
-    openers: &mut [u32],
-    labels: &mut [u8],
-) -> Answer
-    requires { n ≤ 1000 }
-    ensures { outcome_of result events.new queue.new openers.new labels.new ≡ outcome text.now
-        (take n lines) 0 (rooms_of events.old queue.old openers.old labels.old) }
-{
-    records::read(text, &lines[..n], 0, events, queue, openers, labels)
-}
-
-// Reads the lines of a text, in the rooms of the program.
-fn show_lines<W: Write>(to: &mut W, text: &[u8], lines: [Line; BYTES], n: usize) -> io::Result<()>
-    requires { n ≤ 1000 }
-{
-    let mut events = [0u32; EVENT_ROOM];
-    let mut queue = [0u32; QUEUE_ROOM];
-    let mut openers = [0u32; OPENER_ROOM];
-    let mut labels = [0u8; LABEL_ROOM];
-    let answer = read_lines(
-        text,
-        lines,
-        n,
-        &mut events,
-        &mut queue,
-        &mut openers,
-        &mut labels,
-    );
-    printing::write_events(to, &events, answer.events as usize)?;
-    write_answer(to, answer)
-}
-
+// The events of a sheet and the answer, in reading 0.
+#[tactic(auto, unfolding(crate::specs::Shown::sheet_text))]
 fn show<W: Write>(to: &mut W, text: &[u8]) -> io::Result<()>
     requires { length text.now ≤ 1000 }
+    ensures { OnOk result (Appends (W.contents to.old) (W.contents to.new) (sheet_text text.now)) }
 {
-    let split = input::split_lines(text);
-    let lines = split.lines;
-    let n = split.count;
-    show_lines(to, text, lines, n)
+    let mut room = [Line { start: 0, end: 0 }; BYTES];
+    let lines = input::split_lines(text, &mut room);
+    let mut rooms = SheetRooms::new();
+    let answer = records::read(
+        text,
+        lines,
+        0,
+        &mut rooms.events,
+        &mut rooms.queue,
+        &mut rooms.openers,
+        &mut rooms.labels,
+    );
+    let numbers = answer.events as usize * EVENT_NUMBERS;
+    printing::write_events(to, printing::front(&rooms.events, numbers))?;
+    printing::write_line(
+        to,
+        &[answer.code, answer.place, answer.events, answer.labels],
+    )
 }
 
 // At most 1,000 bytes of input are a sheet.
-pub fn show_input<R: Read, W: Write>(from: &mut R, to: &mut W) -> io::Result<()> {
-    let mut text = [0u8; BYTES + 1];
-    let n = input::read_full(from, &mut text)?;
-    if BYTES < n {
-        to.write_all(b"input over 1000 bytes\n")
-    } else {
-        show(to, &text[..n])
+pub fn show_input<R: Read, W: Write>(from: &mut R, to: &mut W) -> io::Result<()>
+    ensures { IfSome (R.remaining from.old) (λ input. OnOk result
+        (Appends (W.contents to.old) (W.contents to.new) (shown input))) }
+{
+    let mut room = [0; BYTES + 1];
+    match input::read_short(from, &mut room)? {
+        Some(text) => show(to, text),
+        None => printing::write_over(to, BYTES),
     }
 }

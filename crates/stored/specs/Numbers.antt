@@ -1,16 +1,17 @@
 -- Decimal numbers of a sample, with one byte behind the digits of each.
-use Rattle.std.specs.Prelude.{ℕ, zero, suc, ◌+◌, ◌*◌, ◌%◌, ◌≡◌, List, [], ◌∷◌, map, Bool, true, false, ◌&&◌, leb, length, drop}
-use Prim.Native.Char.{code}
-use Rattle.stored.specs.declared.Number.{Number}
+use Rattle.std.specs.Prelude.{ℕ, zero, suc, ◌+◌, ◌*◌, ◌%◌, List, [], ◌∷◌, true, false, drop}
+use Rattle.std.specs.Char.{is_ascii_digit}
 
-abbrev pub is_digit : ℕ → Bool
-is_digit b = leb (code "0") b && leb b (code "9")
+-- a number, and the place behind it
+pub record Number : Type 0 where
+  pub value : ℕ
+  pub next : ℕ
 
 -- the number that goes on at a place, with the value of its digits before it; of more than 19 digits the last 19 count
 unfoldable pub digits : ℕ → ℕ → List ℕ → Number
 digits value at [] = record { value = value; next = at }
 digits value at (b ∷ bs) =
-    elim (is_digit b) [
+    elim (is_ascii_digit b) [
       | true ↦ digits (value % 1000000000000000000 * 10 + b % 16) (suc at) bs
       | false ↦ record { value = value; next = suc at }
     ]
@@ -26,15 +27,3 @@ numbers (suc n) s at = (number_at s at).value ∷ numbers n s (number_at s at).n
 unfoldable pub behind : ℕ → List ℕ → ℕ → ℕ
 behind zero s at = at
 behind (suc n) s at = behind n s (number_at s at).next
-
--- how a number is stored
-abbrev pub byte : ℕ → ℕ
-byte v = v % 256
-
-abbrev pub place : ℕ → ℕ
-place v = v
-
--- a room that is filled from the sample, and the place behind what filled it
-pub record Filled (how : ℕ → ℕ) (s : List ℕ) (from : ℕ) (room room' : List ℕ) (r : ℕ) : Type 0 where
-  pub all : room' ≡ map how (numbers (length room) s from)
-  pub next : r ≡ behind (length room) s from

@@ -1,99 +1,97 @@
 #![tactic(auto)]
 // Stored answers of the Rust, as decimal numbers with one byte behind each: what the programs that
 // replay them share.
-ghost use Rattle.std.specs.Prelude.{◌≡◌, ◌%◌, length};
-ghost use Rattle.stored.specs.Numbers.{is_digit, number_at, Filled, byte, place};
+ghost use Rattle.std.specs.Prelude.{◌≡◌, min, length, OnOk, Some};
+ghost use Rattle.std.specs.List.{AllZip};
+ghost use Rattle.std.specs.Io.KnownBytes.{Appends};
+ghost use Rattle.stored.specs.Numbers.{number_at, numbers, behind};
+ghost use Rattle.stored.specs.Reports.{report_text, report_line};
 
-use std::io;
 use std::io::Write;
+use std::{fmt, io};
 
-// A number of the sample, and the place behind it.
+// A sample, and the place from which on it is read.
 #[derive(Clone, Copy)]
-pub struct Number {
-    pub value: u64,
-    pub next: usize,
+pub struct Sample<'a> {
+    pub bytes: &'a [u8],
+    pub at: usize,
 }
 
-// The place behind a case, and whether our answer is the stored one.
-#[derive(Clone, Copy)]
-pub struct Case {
-    pub next: usize,
-    pub same: bool,
+impl<'a> Sample<'a> {
+    // The number at the place, which moves behind it. Of more than 19 digits the last 19 count.
+    #[tactic(auto, using(crate::proofs::Filling::reading_steps), unfolding(crate::specs::Numbers::number_at))]
+    pub fn number(&mut self) -> u64
+        ensures value { result ≡ (number_at self.old.bytes.now self.old.at).value }
+        ensures next { self.new.at ≡ (number_at self.old.bytes.now self.old.at).next }
+        ensures bytes { self.new.bytes ≡ self.old.bytes }
+    {
+        let mut value = 0;
+        while let Some(&b) = self.bytes.get(self.at) {
+            self.at += 1;
+            if !b.is_ascii_digit() {
+                break;
+            }
+            value = value % 1000000000000000000 * 10 + u64::from(b % 16);
+        }
+        value
+    }
+
+    // A number, and never more than a bound.
+    pub fn at_most(&mut self, most: usize) -> usize
+        ensures value { result ≡ min (number_at self.old.bytes.now self.old.at).value most }
+        ensures next { self.new.at ≡ (number_at self.old.bytes.now self.old.at).next }
+        ensures bytes { self.new.bytes ≡ self.old.bytes }
+    {
+        self.number().min(most as u64) as usize
+    }
+
+    // Fills a room, each element made of one number.
+    pub fn fill<T: Copy, F: Fn(u64) -> T>(&mut self, room: &mut [T], element: F)
+        requires { F.IsAlwaysCallable element }
+        ensures elements { AllZip (F.post element)
+            (numbers (length room.old) self.old.bytes.now self.old.at) room.new }
+        ensures next { self.new.at ≡ behind (length room.old) self.old.bytes.now self.old.at }
+        ensures bytes { self.new.bytes ≡ self.old.bytes }
+    {
+        for x in room {
+            *x = element(self.number());
+        }
+    }
+
+    // A list in the front of a room: how many elements, and the number of each.
+    pub fn list<'b, T: Copy, F: Fn(u64) -> T>(&mut self, room: &'b mut [T], element: F) -> &'b [T]
+        requires { F.IsAlwaysCallable element }
+        ensures elements { let count = number_at self.old.bytes.now self.old.at in
+            AllZip (F.post element) (numbers (min count.value (length room.old))
+            self.old.bytes.now count.next) result.now }
+        ensures next { let count = number_at self.old.bytes.now self.old.at in
+            self.new.at ≡ behind (min count.value (length room.old)) self.old.bytes.now count.next }
+        ensures bytes { self.new.bytes ≡ self.old.bytes }
+    {
+        let n = self.at_most(room.len());
+        let list = &mut room[..n];
+        self.fill(list, element);
+        list
+    }
 }
 
 // How many cases there were, and how many differ.
-#[derive(Clone, Copy)]
+#[derive(Clone, Copy, Debug, PartialEq, Eq)]
 pub struct Report {
     pub cases: u64,
     pub differ: u64,
 }
 
-fn is_digit(b: u8) -> bool
-    ensures { result ≡ is_digit b }
-{
-    (b'0' <= b) & (b <= b'9')
-}
+impl fmt::Display for Report {
+    ghost output = { λ r. Some (report_text r) };
 
-fn digit(b: u8) -> u64
-    ensures { result ≡ b % 16 }
-{
-    (b % 16) as u64
-}
-
-// The number at a place, with the byte behind its digits. Of more than 19 digits the last 19 count.
-pub fn number_at(sample: &[u8], from: usize) -> Number
-    ensures { result ≡ number_at sample.now from }
-{
-    let mut value = 0u64;
-    let mut at = from;
-    while at < sample.len() {
-        let b = sample[at];
-        at += 1;
-        if !is_digit(b) {
-            return Number {
-                value: value,
-                next: at,
-            };
-        }
-        value = value % 1000000000000000000 * 10 + digit(b);
-    }
-    Number {
-        value: value,
-        next: at,
+    fn fmt<W: fmt::Write>(&self, f: &mut fmt::Formatter<W>) -> fmt::Result {
+        write!(f, "{} cases, {} differ", self.cases, self.differ)
     }
 }
 
-// Bytes, one number each, and the place behind them.
-pub fn fill(sample: &[u8], from: usize, line: &mut [u8]) -> usize
-    ensures { Filled byte sample.now from line.old line.new result }
+pub fn write_report<W: Write>(to: &mut W, r: Report) -> io::Result<()>
+    ensures { OnOk result (Appends (W.contents to.old) (W.contents to.new) (report_line r)) }
 {
-    let mut at = from;
-    let mut i = 0;
-    while i < line.len() {
-        let n = number_at(sample, at);
-        line[i] = (n.value % 256) as u8;
-        at = n.next;
-        i += 1;
-    }
-    at
-}
-
-// Places, one number each, and the place behind them.
-pub fn fill_places(sample: &[u8], from: usize, places: &mut [usize]) -> usize
-    ensures { Filled place sample.now from places.old places.new result }
-{
-    let mut at = from;
-    let mut i = 0;
-    while i < places.len() {
-        let n = number_at(sample, at);
-        places[i] = n.value as usize;
-        at = n.next;
-        i += 1;
-    }
-    at
-}
-
-pub fn write_report<W: Write>(to: &mut W, r: Report) -> io::Result<()> {
-    let Report { cases, differ } = r;
-    writeln!(to, "{cases} cases, {differ} differ")
+    writeln!(to, "{r}")
 }

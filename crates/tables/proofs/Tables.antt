@@ -1,15 +1,11 @@
--- The laws of the numbers of sorts, and of closing marks.
+-- The laws of the numbers of sorts.
 use Prim.Native.Nat.{ℕ, zero, suc, ◌≤◌}
 use mathlib.Core.Path.{◌≡◌, refl}
 use mathlib.Core.List.{List, [], ◌∷◌}
-use mathlib.Core.Bool.{false}
 use native.Mathlib.Omega.{arith}
-use borrow.Author.Tests.{ne_eqb}
 use lib.ListN.{get_or-eq_default}
-use Rattle.classes.specs.Classes.{among}
 use Rattle.reading.specs.declared.Sort.{Sort}
 use Rattle.reading.specs.declared.Sort.TheVariants as sort
-use Rattle.reading.specs.Closers as closer
 use Rattle.tables.specs.Tables.{sorts, number, sort_at}
 
 -- a sort is that of its number
@@ -48,20 +44,3 @@ past (suc k) n h = omega (arith, past k n h.0, h.1)
 pub sort-last : (n : ℕ) → Past 18 n → sort_at n ≡ sort.InlineImage
 unfolding sorts sort_at
 sort-last n h = get_or-eq_default sorts sort.InlineImage (past 18 n h)
-
--- a number that is none of some keys, as the last arm of a `match` on it knows: it is not among them
-abbrev pub Missed : Type 0 → List ℕ → ℕ → Type 0
-Missed N [] n = N
-Missed N (k ∷ ks) n = Missed (N × (n ≡ k → ⊥)) ks n
-
-missed : (N : Type 0) (ks : List ℕ) (n : ℕ) → Missed N ks n → N × (among ks n ≡ false)
-unfolding among
-missed N [] n h = (h, refl)
-missed N (k ∷ ks) n h = let r = missed (N × (n ≡ k → ⊥)) ks n h in (r.0.0, rw (ne_eqb n k r.0.1) r.1)
-
--- the marks that can open and close
-abbrev pub marks : List ℕ
-marks = closer.asterisk ∷ closer.underscore ∷ closer.caret ∷ closer.tilde ∷ closer.quote1 ∷ closer.quote2 ∷ []
-
-pub one_way : (n : ℕ) → Missed (Unit {0}) marks n → among marks n ≡ false
-one_way n h = (missed (Unit {0}) marks n h).1

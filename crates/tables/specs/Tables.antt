@@ -1,18 +1,15 @@
--- What the code adds to the tables of the definition: what a `]` takes along as a declared type, and the numbers of the sorts of openers in a
+-- What the code adds to the tables of the definition: roles and makings by their parts, and the numbers of the sorts of openers in a
 -- room.
-use Rattle.std.specs.Prelude.{ℕ, List, [], ◌∷◌, Bool, get_or}
+use Rattle.std.specs.Prelude.{ℕ, List, [], ◌∷◌, Bool, get_or, Option, Some, None}
 use Rattle.reading.specs.declared.Sort.{Sort}
 use Rattle.reading.specs.declared.Sort.TheVariants as sort
-use Rattle.reading.specs.declared.Opens.{Opens}
+use Rattle.reading.specs.declared.Closer.{Closer}
 use Rattle.reading.specs.declared.Role.{Role}
 use Rattle.reading.specs.declared.Role.TheVariants as role
 use Rattle.reading.specs.declared.DelimEventKind.{DelimEventKind}
 use Rattle.reading.specs.declared.DelimEventKind.TheVariants as makes
-use Rattle.reading.specs.Containers.{Along, along, by_itself}
-use Rattle.tables.specs.declared.Taking.{Taking}
-use Rattle.tables.specs.declared.Taking.TheVariants as taking
 
-abbrev pub other_of : Opens → ℕ → ℕ → Role
+abbrev pub other_of : Option Sort → Option Closer → ℕ → Role
 other_of o c a = role.Other record { opens = o; closes = c; alone = a }
 
 abbrev pub pair_of : ℕ → ℕ → DelimEventKind
@@ -20,10 +17,6 @@ pair_of a b = makes.Pair record { first = a; second = b }
 
 abbrev pub link_of : ℕ → Bool → DelimEventKind
 link_of k inline = makes.Link record { container = k; inline = inline }
-
-unfoldable pub taken_as : Along → Taking
-taken_as (along inline) = taking.Along inline
-taken_as by_itself = taking.Alone
 
 -- the sorts in the order of their declaration, but for the last
 unfoldable pub sorts : List Sort

@@ -1,94 +1,87 @@
 #![tactic(auto)]
-// What tokens and openers are to the parser: each a flat `match`, proved equal to the tables of the definition. Kinds of events, containers and
-// closing marks are the numbers that `reading` names.
+// What tokens and openers are to the parser: each a flat `match`, proved equal to the tables of the definition. Kinds of events and containers
+// are the numbers that `reading` names.
 ghost use Rattle.std.specs.Prelude.{◌≡◌};
 ghost use Rattle.reading.specs.Containers;
-ghost use Rattle.reading.specs.Closers as closers;
 ghost use Rattle.reading.specs.Events.{str};
 ghost use Rattle.reading.specs.Tokens;
 ghost use Rattle.reading.specs.Tokens.{closed_by, two_way, may_be_empty, is_single, closing_of, link_sort};
 ghost use Rattle.reading.specs.Tokens.{role_of, opens_a, is_run, is_format, is_caret};
-ghost use Rattle.tables.specs.Tables.{other_of, pair_of, link_of, taken_as, number, sort_at};
+ghost use Rattle.tables.specs.Tables.{other_of, pair_of, link_of, number, sort_at};
 
 use lex::{Delimiter, Kind, Sequence, Symbol};
-use reading::{DelimEventKind, Marks, Opens, Pair, Role, Sort, Target, closer, container, kind};
+use reading::{Closer, DelimEventKind, Marks, Pair, Role, Sort, Target, container, kind};
 
-// The bracket that a `]` takes along, if it does: whether it is that of an inline link.
-#[derive(Clone, Copy)]
-pub enum Taking {
-    Along(bool),
-    Alone,
-}
-
-// The mark that closes an opener; no opener has none.
-pub fn closed_by(s: Sort) -> u32
+// The mark that closes an opener.
+#[tactic(auto, unfolding(reading::specs::Tokens::closed_by))]
+pub fn closed_by(s: Sort) -> Closer
     ensures { result ≡ closed_by s }
 {
     match s {
-        Sort::Span => closer::BRACKET,
-        Sort::Image => closer::BRACKET,
-        Sort::Strong => closer::ASTERISK,
-        Sort::BraceStrong => closer::BRACE_ASTERISK,
-        Sort::Emphasis => closer::UNDERSCORE,
-        Sort::BraceEmphasis => closer::BRACE_UNDERSCORE,
-        Sort::Superscript => closer::CARET,
-        Sort::BraceSuperscript => closer::BRACE_CARET,
-        Sort::Subscript => closer::TILDE,
-        Sort::BraceSubscript => closer::BRACE_TILDE,
-        Sort::Mark => closer::BRACE_EQUAL,
-        Sort::Delete => closer::BRACE_HYPHEN,
-        Sort::Insert => closer::BRACE_PLUS,
-        Sort::SingleQuoted => closer::QUOTE1,
-        Sort::DoubleQuoted => closer::QUOTE2,
-        Sort::ReferenceLink => closer::BRACKET,
-        Sort::ReferenceImage => closer::BRACKET,
-        Sort::InlineLink => closer::PAREN,
-        Sort::InlineImage => closer::PAREN,
+        Sort::Span => Closer::Bracket,
+        Sort::Image => Closer::Bracket,
+        Sort::Strong => Closer::Asterisk,
+        Sort::BraceStrong => Closer::BraceAsterisk,
+        Sort::Emphasis => Closer::Underscore,
+        Sort::BraceEmphasis => Closer::BraceUnderscore,
+        Sort::Superscript => Closer::Caret,
+        Sort::BraceSuperscript => Closer::BraceCaret,
+        Sort::Subscript => Closer::Tilde,
+        Sort::BraceSubscript => Closer::BraceTilde,
+        Sort::Mark => Closer::BraceEqual,
+        Sort::Delete => Closer::BraceHyphen,
+        Sort::Insert => Closer::BracePlus,
+        Sort::SingleQuoted => Closer::Quote1,
+        Sort::DoubleQuoted => Closer::Quote2,
+        Sort::ReferenceLink => Closer::Bracket,
+        Sort::ReferenceImage => Closer::Bracket,
+        Sort::InlineLink => Closer::Paren,
+        Sort::InlineImage => Closer::Paren,
     }
 }
 
 // Whether an opener's mark can open and close.
+#[tactic(auto, unfolding(reading::specs::Tokens::both_ways))]
 pub fn two_way(s: Sort) -> bool
     ensures { result ≡ two_way s }
 {
-    match closed_by(s) {
-        closer::ASTERISK => true,
-        closer::UNDERSCORE => true,
-        closer::CARET => true,
-        closer::TILDE => true,
-        closer::QUOTE1 => true,
-        closer::QUOTE2 => true,
-        _ => false,
-    }
+    matches!(
+        closed_by(s),
+        Closer::Asterisk
+            | Closer::Underscore
+            | Closer::Caret
+            | Closer::Tilde
+            | Closer::Quote1
+            | Closer::Quote2
+    )
 }
 
 // Spans and links.
+#[tactic(auto, unfolding(reading::specs::Closers::number))]
 pub fn may_be_empty(s: Sort) -> bool
     ensures { result ≡ may_be_empty s }
 {
-    let c = closed_by(s);
-    (c == closer::BRACKET) | (c == closer::PAREN)
+    matches!(closed_by(s), Closer::Bracket | Closer::Paren)
 }
 
 // A single quote.
+#[tactic(auto, unfolding(reading::specs::Closers::number))]
 pub fn is_single(s: Sort) -> bool
     ensures { result ≡ is_single s }
 {
-    closed_by(s) == closer::QUOTE1
+    closed_by(s) == Closer::Quote1
 }
 
 // The kind of the event of an opener that is not closed.
+#[tactic(auto, unfolding(reading::specs::Tokens::unclosed, reading::specs::Closers::number))]
 pub fn unclosed(s: Sort) -> u32
     ensures { result ≡ Tokens.unclosed s }
 {
-    let c = closed_by(s);
-    if c == closer::QUOTE1 {
-        return kind::RIGHT_SINGLE_QUOTE;
+    match closed_by(s) {
+        Closer::Quote1 => kind::RIGHT_SINGLE_QUOTE,
+        Closer::Quote2 => kind::LEFT_DOUBLE_QUOTE,
+        _ => kind::STR,
     }
-    if c == closer::QUOTE2 {
-        return kind::LEFT_DOUBLE_QUOTE;
-    }
-    kind::STR
 }
 
 fn pair(first: u32, second: u32) -> DelimEventKind
@@ -112,6 +105,7 @@ fn link(container: u32, inline: bool) -> DelimEventKind
 }
 
 // What the closing of an opener makes. Container k is entered by event 32 + k, and left by 64 + k.
+#[tactic(auto, unfolding(reading::specs::Tokens::closing_of))]
 pub fn closing_of(s: Sort) -> DelimEventKind
     ensures { result ≡ closing_of s }
 {
@@ -139,6 +133,7 @@ pub fn closing_of(s: Sort) -> DelimEventKind
 }
 
 // The link that a `]` begins.
+#[tactic(auto, unfolding(reading::specs::Tokens::link_sort))]
 pub fn link_sort(image: bool, inline: bool) -> Sort
     ensures { result ≡ link_sort image inline }
 {
@@ -155,7 +150,7 @@ pub fn link_sort(image: bool, inline: bool) -> Sort
 }
 
 // What opens `opens`, closes the mark `closes`, and alone is an event of the kind `alone`.
-fn other(opens: Opens, closes: u32, alone: u32) -> Role
+fn other(opens: Option<Sort>, closes: Option<Closer>, alone: u32) -> Role
     ensures { result ≡ other_of opens closes alone }
 {
     let m = Marks {
@@ -168,96 +163,92 @@ fn other(opens: Opens, closes: u32, alone: u32) -> Role
 
 // What opens and closes nothing.
 fn plain(kind: u32) -> Role
-    ensures { result ≡ other_of Opens.None closers.none kind }
+    ensures { result ≡ other_of None None kind }
 {
-    other(Opens::None, closer::NONE, kind)
+    other(None, None, kind)
 }
 
 // What opens, closes `closes`, and alone is Str.
-fn opening(s: Sort, closes: u32) -> Role
-    ensures { result ≡ other_of (Opens.Some s) closes str }
+fn opening(s: Sort, closes: Option<Closer>) -> Role
+    ensures { result ≡ other_of (Some s) closes str }
 {
-    other(Opens::Some(s), closes, kind::STR)
+    other(Some(s), closes, kind::STR)
 }
 
 // What only closes, and alone is Str.
-fn closing(closes: u32) -> Role
-    ensures { result ≡ other_of Opens.None closes str }
+fn closing(closes: Closer) -> Role
+    ensures { result ≡ other_of None (Some closes) str }
 {
-    other(Opens::None, closes, kind::STR)
+    other(None, Some(closes), kind::STR)
 }
 
+#[tactic(auto, unfolding(reading::specs::Tokens::role_of))]
 fn open_role(d: Delimiter) -> Role
     ensures { result ≡ role_of (Kind.Open d) }
 {
     match d {
         Delimiter::Brace => Role::Brace,
-        Delimiter::BraceAsterisk => opening(Sort::BraceStrong, closer::NONE),
-        Delimiter::BraceCaret => opening(Sort::BraceSuperscript, closer::NONE),
-        Delimiter::BraceEqual => opening(Sort::Mark, closer::NONE),
-        Delimiter::BraceHyphen => opening(Sort::Delete, closer::NONE),
-        Delimiter::BracePlus => opening(Sort::Insert, closer::NONE),
-        Delimiter::BraceTilde => opening(Sort::BraceSubscript, closer::NONE),
-        Delimiter::BraceUnderscore => opening(Sort::BraceEmphasis, closer::NONE),
+        Delimiter::BraceAsterisk => opening(Sort::BraceStrong, None),
+        Delimiter::BraceCaret => opening(Sort::BraceSuperscript, None),
+        Delimiter::BraceEqual => opening(Sort::Mark, None),
+        Delimiter::BraceHyphen => opening(Sort::Delete, None),
+        Delimiter::BracePlus => opening(Sort::Insert, None),
+        Delimiter::BraceTilde => opening(Sort::BraceSubscript, None),
+        Delimiter::BraceUnderscore => opening(Sort::BraceEmphasis, None),
         Delimiter::Bracket => Role::Bracket,
-        Delimiter::BraceQuote1 => other(
-            Opens::Some(Sort::SingleQuoted),
-            closer::NONE,
-            kind::LEFT_SINGLE_QUOTE,
-        ),
-        Delimiter::BraceQuote2 => other(
-            Opens::Some(Sort::DoubleQuoted),
-            closer::NONE,
-            kind::LEFT_DOUBLE_QUOTE,
-        ),
+        Delimiter::BraceQuote1 => other(Some(Sort::SingleQuoted), None, kind::LEFT_SINGLE_QUOTE),
+        Delimiter::BraceQuote2 => other(Some(Sort::DoubleQuoted), None, kind::LEFT_DOUBLE_QUOTE),
         Delimiter::Paren => Role::Paren,
     }
 }
 
+#[tactic(auto, unfolding(reading::specs::Tokens::role_of))]
 fn close_role(d: Delimiter) -> Role
     ensures { result ≡ role_of (Kind.Close d) }
 {
     match d {
         Delimiter::Brace => plain(kind::STR),
-        Delimiter::BraceAsterisk => closing(closer::BRACE_ASTERISK),
-        Delimiter::BraceCaret => closing(closer::BRACE_CARET),
-        Delimiter::BraceEqual => closing(closer::BRACE_EQUAL),
-        Delimiter::BraceHyphen => closing(closer::BRACE_HYPHEN),
-        Delimiter::BracePlus => closing(closer::BRACE_PLUS),
-        Delimiter::BraceTilde => closing(closer::BRACE_TILDE),
-        Delimiter::BraceUnderscore => closing(closer::BRACE_UNDERSCORE),
-        Delimiter::Bracket => closing(closer::BRACKET),
-        Delimiter::BraceQuote1 => other(Opens::None, closer::QUOTE1, kind::RIGHT_SINGLE_QUOTE),
-        Delimiter::BraceQuote2 => other(Opens::None, closer::QUOTE2, kind::RIGHT_DOUBLE_QUOTE),
-        Delimiter::Paren => closing(closer::PAREN),
+        Delimiter::BraceAsterisk => closing(Closer::BraceAsterisk),
+        Delimiter::BraceCaret => closing(Closer::BraceCaret),
+        Delimiter::BraceEqual => closing(Closer::BraceEqual),
+        Delimiter::BraceHyphen => closing(Closer::BraceHyphen),
+        Delimiter::BracePlus => closing(Closer::BracePlus),
+        Delimiter::BraceTilde => closing(Closer::BraceTilde),
+        Delimiter::BraceUnderscore => closing(Closer::BraceUnderscore),
+        Delimiter::Bracket => closing(Closer::Bracket),
+        Delimiter::BraceQuote1 => other(None, Some(Closer::Quote1), kind::RIGHT_SINGLE_QUOTE),
+        Delimiter::BraceQuote2 => other(None, Some(Closer::Quote2), kind::RIGHT_DOUBLE_QUOTE),
+        Delimiter::Paren => closing(Closer::Paren),
     }
 }
 
+#[tactic(auto, unfolding(reading::specs::Tokens::role_of, reading::specs::Tokens::closed_by))]
 fn symbol_role(y: Symbol) -> Role
     ensures { result ≡ role_of (Kind.Sym y) }
 {
     match y {
-        Symbol::Asterisk => opening(Sort::Strong, closer::ASTERISK),
-        Symbol::Caret => opening(Sort::Superscript, closer::CARET),
-        Symbol::ExclaimBracket => opening(Sort::Image, closer::NONE),
+        Symbol::Asterisk => opening(Sort::Strong, Some(Closer::Asterisk)),
+        Symbol::Caret => opening(Sort::Superscript, Some(Closer::Caret)),
+        Symbol::ExclaimBracket => opening(Sort::Image, None),
         Symbol::Lt => Role::Lt,
         Symbol::Pipe => plain(kind::STR),
         Symbol::Quote1 => other(
-            Opens::Some(Sort::SingleQuoted),
-            closer::QUOTE1,
+            Some(Sort::SingleQuoted),
+            Some(Closer::Quote1),
             kind::RIGHT_SINGLE_QUOTE,
         ),
         Symbol::Quote2 => other(
-            Opens::Some(Sort::DoubleQuoted),
-            closer::QUOTE2,
+            Some(Sort::DoubleQuoted),
+            Some(Closer::Quote2),
             kind::RIGHT_DOUBLE_QUOTE,
         ),
-        Symbol::Tilde => opening(Sort::Subscript, closer::TILDE),
-        Symbol::Underscore => opening(Sort::Emphasis, closer::UNDERSCORE),
+        Symbol::Tilde => opening(Sort::Subscript, Some(Closer::Tilde)),
+        Symbol::Underscore => opening(Sort::Emphasis, Some(Closer::Underscore)),
         Symbol::Colon => Role::Colon,
     }
 }
 
+#[tactic(auto, unfolding(reading::specs::Tokens::role_of))]
 fn sequence_role(q: Sequence) -> Role
     ensures { result ≡ role_of (Kind.Seq q) }
 {
@@ -269,6 +260,7 @@ fn sequence_role(q: Sequence) -> Role
 }
 
 // What a token is looked at as.
+#[tactic(auto, unfolding(reading::specs::Tokens::role_of))]
 pub fn role_of(kind: Kind) -> Role
     ensures { result ≡ role_of kind }
 {
@@ -286,17 +278,16 @@ pub fn role_of(kind: Kind) -> Role
 }
 
 // A backtick run.
+#[tactic(auto, unfolding(reading::specs::Tokens::is_run))]
 pub fn is_run(r: Role) -> bool
     ensures { result ≡ is_run r }
 {
-    match r {
-        Role::Backticks => true,
-        _ => false,
-    }
+    matches!(r, Role::Backticks)
 }
 
 // An opener of the sort that a mark closes.
-fn opens_a(c: u32, r: Role) -> bool
+#[tactic(auto, unfolding(reading::specs::Tokens::opens_a, reading::specs::Tokens::opens_closed_by, reading::specs::Closers::number))]
+fn opens_a(c: Closer, r: Role) -> bool
     ensures { result ≡ opens_a c r }
 {
     let Role::Other(m) = r else {
@@ -304,8 +295,8 @@ fn opens_a(c: u32, r: Role) -> bool
     };
     let o = m.opens;
     match o {
-        Opens::Some(s) => closed_by(s) == c,
-        Opens::None => false,
+        Some(s) => closed_by(s) == c,
+        None => false,
     }
 }
 
@@ -313,28 +304,30 @@ fn opens_a(c: u32, r: Role) -> bool
 pub fn is_format(r: Role) -> bool
     ensures { result ≡ is_format r }
 {
-    opens_a(closer::BRACE_EQUAL, r)
+    opens_a(Closer::BraceEqual, r)
 }
 
 // `^`
 pub fn is_caret(r: Role) -> bool
     ensures { result ≡ is_caret r }
 {
-    opens_a(closer::CARET, r)
+    opens_a(Closer::Caret, r)
 }
 
 // The bracket that a `]` takes along.
-pub fn takes(r: Role) -> Taking
-    ensures { result ≡ taken_as (Containers.takes r) }
+#[tactic(auto, unfolding(reading::specs::Containers::takes))]
+pub fn takes(r: Role) -> Option<bool>
+    ensures { result ≡ Containers.takes r }
 {
     match r {
-        Role::Bracket => Taking::Along(false),
-        Role::Paren => Taking::Along(true),
-        _ => Taking::Alone,
+        Role::Bracket => Some(false),
+        Role::Paren => Some(true),
+        _ => None,
     }
 }
 
 // The number of a sort in a room.
+#[tactic(auto, unfolding(crate::specs::Tables::number))]
 pub fn number_of(s: Sort) -> u32
     ensures { result ≡ number s }
 {
@@ -362,6 +355,7 @@ pub fn number_of(s: Sort) -> u32
 }
 
 // The sort of a number; of every number of 18 or more the last.
+#[tactic(auto, unfolding(crate::specs::Tables::sort_at, crate::specs::Tables::sorts))]
 pub fn sort_of(n: u32) -> Sort
     ensures { result ≡ sort_at n }
 {

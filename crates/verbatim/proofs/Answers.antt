@@ -1,22 +1,20 @@
 -- What the small functions answer: rules, dollars, kinds, and the token ahead.
+use Rattle.std.specs.Prelude.{None, Option, Some}
 use Prim.Native.Nat.{ℕ, zero, suc, ◌+◌, ◌-◌, ◌≤◌, ◌<◌}
 use mathlib.Core.Path.{◌≡◌, refl, sym, ap, ◌∙◌, subst}
 use mathlib.Core.List.{List, [], ◌∷◌}
 use mathlib.Core.Bool.{Bool, true, false, not, ◌&&◌}
-use native.Mathlib.Numerals.{add-one}
 use native.Mathlib.Omega.{arith}
 use borrow.Author.Tests.{eq-eqb, ne_eqb, lt-ltb, le-ltb}
 use lib.Dec.{eqb}
-use lib.ListN.{length, get_or, take, drop, drop_of_length-le}
-use lib.Seq.{drop-cons, take_all}
+use Rattle.std.specs.List.{list_all}
+use Rattle.std.proofs.lemmas.List.Recursion.{same_from_clauses}
+use lib.ListN.{length, take, drop}
+use lib.Seq.{take_all}
 use types.Run.{OneOf, miss}
 use denote.Enum.Declared.{tag_of}
 use Rattle.classes.specs.Classes.{blank}
 use Rattle.lex.specs.declared.lex.Token.{Token}
-use Rattle.lex.specs.declared.lex.Next.{Next}
-use Rattle.lex.specs.declared.lex.Next.TheVariants as next
-use Rattle.scan.specs.declared.Ahead.{Ahead}
-use Rattle.scan.specs.declared.Ahead.TheVariants as ahead
 use Rattle.scan.specs.Scans.{raw_format_of}
 use Rattle.reading.specs.declared.Event.{Event}
 use Rattle.reading.specs.declared.Place.{Place}
@@ -103,26 +101,26 @@ module _ (d e : Event) (is : e ≡ d) (low : 32 ≤ d.kind) (high : d.kind < 64)
   exit-is k isk a b = let z : 64 + k ≡ d.kind + 32 = omega (arith, exit-kind k isk) in rw (is, z)
 
 -- a run of another length; a raw format
-pub another-none : (w : Verbatim) (x : Next) → x ≡ next.None → false ≡ another_run w x
+pub another-none : (w : Verbatim) (x : Option Token) → x ≡ None → false ≡ another_run w x
 unfolding another_run
 another-none w x e = rw e
 
-pub another-some : (w : Verbatim) (x : Next) (t : Token) → x ≡ next.Some t → (r : Role) → r ≡ role_of t.kind → (b : Bool) → b ≡ is_run r
+pub another-some : (w : Verbatim) (x : Option Token) (t : Token) → x ≡ Some t → (r : Role) → r ≡ role_of t.kind → (b : Bool) → b ≡ is_run r
     → (b && not (eqb t.len w.len)) ≡ another_run w x
 unfolding another_run
 another-some w x t e r isr b isb = rw (e, isb, isr)
 
-module _ (v : View) (j : ℕ) (x : Next) where
-  pub format-none : x ≡ next.None → ahead.None ≡ format_ahead v j x
+module _ (v : View) (j : ℕ) (x : Option Token) where
+  pub format-none : x ≡ None → None ≡ format_ahead v j x
   unfolding format_ahead
   format-none e = rw e
 
-  module _ (t : Token) (e : x ≡ next.Some t) (r : Role) (isr : r ≡ role_of t.kind) (b : Bool) (isb : b ≡ is_format r) where
-    pub format-some : b ≡ true → (a : Ahead) → a ≡ raw_format_of (drop (j + 2) v.bytes) → a ≡ format_ahead v j x
+  module _ (t : Token) (e : x ≡ Some t) (r : Role) (isr : r ≡ role_of t.kind) (b : Bool) (isb : b ≡ is_format r) where
+    pub format-some : b ≡ true → (a : Option ℕ) → a ≡ raw_format_of (drop (j + 2) v.bytes) → a ≡ format_ahead v j x
     unfolding format_ahead
     format-some y a isa = let z : is_format (role_of t.kind) ≡ true = sym (isb ∙ ap (λ (r : Role). is_format r) isr) ∙ y in rw (e, format_ahead, z) isa
 
-    pub format-other : b ≡ false → ahead.None ≡ format_ahead v j x
+    pub format-other : b ≡ false → None ≡ format_ahead v j x
     unfolding format_ahead
     format-other y = let z : is_format (role_of t.kind) ≡ false = sym (isb ∙ ap (λ (r : Role). is_format r) isr) ∙ y in rw (e, format_ahead, z)
 
@@ -135,21 +133,7 @@ pub kept-all : (w : Verbatim) (q : List Event) (n : ℕ) → length q ≡ n → 
 unfolding kept
 kept-all w q n l e = rw (e, kept) (take_all n q (omega (arith, l)))
 
--- i bytes are blank, and the answer is that of those behind
-abbrev pub Blank : List ℕ → ℕ → Type 0
-Blank s i = all_blank (drop i s) ≡ all_blank s
-
-blank-front : (b : ℕ) (bs : List ℕ) (x : Bool) → blank b ≡ x → all_blank (b ∷ bs) ≡ (x && all_blank bs)
+-- whether all bytes are blank, told by the library's test of a list
+pub all_blank_is : (s : List ℕ) → list_all blank s ≡ all_blank s
 unfolding all_blank
-blank-front b bs x e = rw e
-
-module _ (s : List ℕ) (i : ℕ) (inv : Blank s i) where
-  pub blank-end : length s ≤ i → true ≡ all_blank s
-  unfolding all_blank
-  blank-end h = rw (drop_of_length-le s h) at inv
-
-  pub blank-stop : i < length s → blank (get_or s i 0) ≡ false → false ≡ all_blank s
-  blank-stop h e = rw (drop-cons s i 0 h, blank-front _ _ _ e) at inv
-
-  pub blank-more : i < length s → blank (get_or s i 0) ≡ true → Blank s (i + 1)
-  blank-more h e = rw add-one (rw (drop-cons s i 0 h, blank-front _ _ _ e) at inv)
+all_blank_is s = same_from_clauses (list_all blank) all_blank (λ b r. blank b && r) refl (λ b bs. refl) (λ b bs. refl) s

@@ -1,50 +1,39 @@
--- The end of a verbatim: its exit, what is kept of the queue, and a raw format.
-use Prim.Native.Nat.{ℕ, zero, suc, ◌+◌, ◌≤◌, ◌<◌}
-use mathlib.Core.Path.{◌≡◌, refl, sym, ap, ◌∙◌, subst}
+-- The end of a verbatim: its exit, what is kept of the queue, and a raw format; and a token inside it.
+use Rattle.std.specs.Prelude.{Option, Some, None, true}
+use Prim.Native.Nat.{ℕ, zero, suc, ◌+◌, ◌<◌}
+use mathlib.Core.Path.{◌≡◌, refl, sym, ap, ◌∙◌}
 use mathlib.Core.List.{List, [], ◌∷◌}
-use mathlib.Core.Bool.{Bool, false}
+use mathlib.Core.Bool.{Bool}
 use native.Mathlib.Omega.{arith}
-use lib.ListN.{length, get_or, take}
-use Rattle.lex.specs.declared.lex.Cursor.{Cursor}
-use Rattle.lex.specs.declared.lex.Lexed.{Lexed}
-use Rattle.lex.specs.Lexer.{fresh_of, peek_of}
-use Rattle.scan.specs.declared.Ahead.{Ahead}
-use Rattle.scan.specs.declared.Ahead.TheVariants as ahead
+use lib.ListN.{length, get_or}
+use Rattle.lex.specs.declared.lex.Token.{Token}
 use Rattle.reading.specs.declared.Event.{Event}
-use Rattle.reading.specs.declared.Place.{Place}
+use Rattle.reading.specs.declared.Home.{Home}
 use Rattle.reading.specs.declared.Last.{Last}
 use Rattle.reading.specs.declared.Verbatim.{Verbatim}
-use Rattle.reading.specs.declared.Inside.{Inside}
-use Rattle.reading.specs.declared.Inside.TheVariants as inside
-use Rattle.reading.specs.declared.Home.{Home}
-use Rattle.reading.specs.Events.{place, in_text, becomes, exit_of, enter, raw_format}
-use Rattle.reading.specs.Machine.{Turn, rules_of, amend, puts, no_str, with_inside}
-use Rattle.reading.specs.Verbatim.{flagged, kept, nothing, format_ahead, closed_with, closes_verbatim, ended_at}
-use Rattle.reading.proofs.Backticks.{format-within}
+use Rattle.reading.specs.Events.{becomes, exit_of, enter, raw_format, str}
+use Rattle.reading.specs.Machine.{View, Turn, amend, puts, put, no_str, with_inside}
+use Rattle.reading.specs.Tokens.{role_of, is_run}
+use Rattle.reading.specs.Verbatim.{nothing, content, ended_at}
 use Rattle.rooms.specs.declared.Parser.{Parser}
-use Rattle.rooms.specs.declared.Margin.{Margin}
 use Rattle.rooms.specs.declared.Span.{Span}
-use Rattle.rooms.specs.Records.{event_at, events}
-use Rattle.rooms.specs.Standing.{with_events, viewed, here, staying, moved, inside_of, Changed, Fits}
+use Rattle.rooms.specs.Records.{event_at}
+use Rattle.rooms.specs.Standing.{here}
+use Rattle.rooms.specs.Steps.{state, staying, amending, cutting, Queued}
 use Rattle.rooms.proofs.Rows.{rows-length, rows_at, rows_cut}
-use Rattle.verbatim.specs.Opened.{Opened, OpenedBy, headed}
+use Rattle.rooms.proofs.Changing.{queued-as, queued-on}
+use Rattle.verbatim.specs.Opened.{Opened, headed}
 
--- the parser with n events
-abbrev pub cut_to : Parser → ℕ → Parser
-cut_to p n = with_events p n p.last
+pub opened-low : (w : Verbatim) (p : Parser) → Opened w p → w.event < p.at.events
+opened-low w p h = omega (arith, h.low, h.high)
 
-module _ (w : Verbatim) (p : Parser) (q o : List ℕ) (low : w.event < p.events) (n : ℕ) (few : n ≤ p.events) where
-  -- the exit behind the first n events
-  pub exits-change : (a b : ℕ) (e : Event) → e ≡ exit_of (event_at q w.event) a b → (none : Last) → none ≡ no_str → (r : Parser) (q' : List ℕ)
-      → Changed (cut_to p n) q o r q' o (staying (cut_to p n) (puts (e ∷ []) none)) → (t : Parser) → t ≡ inside_of r inside.No
-      → Changed p q o t q' o (staying p (headed w n a b))
-  exits-change a b e ise none isn r q' c t ist =
-      subst (λ (x : Parser). Changed p q o x q' o (staying p (headed w n a b))) (sym ist)
-      record {
-        same = λ l. ap (λ (x : Turn). record { cursor = x.cursor; state = with_inside inside.No x.state }) (c.same l)
-            ∙ rw (ise, isn, rows_cut event_at n p.events q few, rows_at event_at p.events q w.event nothing low);
-        labels = c.labels;
-      }
+-- the exit behind the first n events
+pub exits-turn : (w : Verbatim) (p r t : Parser) → w.event < p.at.events → (n a b : ℕ) (e : Event) → e ≡ exit_of (event_at p.queue.now w.event) a b
+    → (none : Last) → none ≡ no_str → Queued p r (staying p (cutting n)) → Queued r t (staying r (puts (e ∷ []) none))
+    → record { cursor = t.at.cursor; state = with_inside None (state t) } ≡ staying p (headed w n a b) (state p)
+exits-turn w p r t low n a b e ise none isn c d =
+    ap (λ (x : Turn). record { cursor = x.cursor; state = with_inside None x.state }) (queued-on p r t _ _ c d).changed.same
+    ∙ rw (ise, isn, rows_at event_at p.at.events p.queue.now w.event nothing low)
 
 -- the event that was changed
 amend-at : (f : Event → Event) (i : ℕ) (es : List Event) (d : Event) → i < length es → get_or (amend f i es) i d ≡ f (get_or es i d)
@@ -53,90 +42,44 @@ amend-at f i [] d h = absurd (omega arith)
 amend-at f zero (e ∷ es) d h = refl
 amend-at f (suc i) (e ∷ es) d h = amend-at f i es d (omega arith)
 
-module _ (w : Verbatim) (p : Parser) (q : List ℕ) (h : Opened w p q) where
-  pub opened-low : w.event < p.events
-  opened-low = omega (arith, h.low, h.high)
+-- a raw inline is open as a verbatim is
+pub opened-raw : (w : Verbatim) (p r : Parser) (home : Home) → Opened w p → Queued p r (staying p (amending (becomes (enter raw_format) home) w.event))
+    → r.at ≡ p.at → Opened w r
+opened-raw w p r home h c is =
+    record { low = h.low; high = rw is h.high; enters = omega (arith, kind); below = omega (arith, kind) }
+  where
+    f : Event → Event
+    f = becomes (enter raw_format) home
 
-  -- a raw inline is open as a verbatim is
-  pub opened-raw : (home : Home) (q' : List ℕ) → ((n : ℕ) → events n q' ≡ amend (becomes (enter raw_format) home) w.event (events n q)) → Opened w p q'
-  opened-raw home q' e =
-      record { low = h.low; high = h.high; enters = omega (arith, kind); below = omega (arith, kind) }
-    where
-      f : Event → Event
-      f = becomes (enter raw_format) home
+    it : event_at r.queue.now w.event ≡ f (get_or (state p).queue w.event nothing)
+    it =
+        sym (rows_at event_at r.at.events r.queue.now w.event nothing (rw is (opened-low w p h)))
+        ∙ ap (λ (x : Turn). get_or x.state.queue w.event nothing) c.changed.same
+        ∙ amend-at f w.event (state p).queue nothing (omega (arith, opened-low w p h, rows-length event_at p.at.events p.queue.now))
 
-      it : event_at q' w.event ≡ f (get_or (events p.events q) w.event nothing)
-      it =
-          sym (rows_at event_at p.events q' w.event nothing opened-low)
-          ∙ ap (λ (es : List Event). get_or es w.event nothing) (e p.events)
-          ∙ amend-at f w.event (events p.events q) nothing (omega (arith, opened-low, rows-length event_at p.events q))
+    kind : (event_at r.queue.now w.event).kind ≡ 41
+    kind = ap (λ (x : Event). x.kind) it
 
-      kind : (event_at q' w.event).kind ≡ 41
-      kind = ap (λ (x : Event). x.kind) it
+-- content that is not blank
+pub content-turn : (v : View) (h : Span) (w : Verbatim) (p r : Parser) (run : Bool) (t : Token) → run ≡ is_run (role_of t.kind)
+    → Queued p r (staying p (put v str h.from h.to)) → (n : ℕ) → n ≡ p.at.events + 1
+    → record {
+      cursor = r.at.cursor;
+      state = with_inside (Some record { event = w.event; len = w.len; seen = true; run = run; keep = n; here = w.here }) (state r);
+    }
+    ≡ staying p (content v (here h p.at) t w) (state p)
+content-turn v h w p r run t isr c n isn =
+    ap (λ (x : Turn). record { cursor = x.cursor; state = with_inside (within run n) x.state }) c.changed.same ∙ rw (isr, keep)
+  where
+    within : Bool → ℕ → Option Verbatim
+    within b k = Some record { event = w.event; len = w.len; seen = true; run = b; keep = k; here = w.here }
 
-module _ (m : Margin) (h : Span) (w : Verbatim) (p : Parser) (q o : List ℕ) (a : Place) (isa : a ≡ place (m.base + h.from)) where
-  -- no raw format behind the run
-  module _ (b : Place) (isb : b ≡ place (m.base + h.to)) (n : ℕ) (keeps : take n (events p.events q) ≡ kept w (events p.events q)) where
-    pub plain-change : (r : Parser) (q' : List ℕ) → Changed p q o r q' o (staying p (headed w n a.0 b.0)) → (c d : Cursor) → d ≡ flagged false c
-        → (t : Parser) → t ≡ moved r d → (line : List ℕ) → Changed p q o t q' o (closed_with (viewed m line) (here h p) c w ahead.None)
-    unfolding closed_with
-    plain-change r q' g c d isd t ist line =
-        subst (λ (x : Parser). Changed p q o x q' o (closed_with (viewed m line) (here h p) c w ahead.None)) (sym ist)
-        record {
-          same = λ l. ap (λ (x : Turn). record { cursor = d; state = x.state }) (g.same l) ∙ rw (isd, isa, isb, keeps);
-          labels = g.labels;
-        }
+    keep : n ≡ suc (length (state p).queue)
+    keep = omega (arith, isn, rows-length event_at p.at.events p.queue.now)
 
-  -- one of n bytes
-  module _ (n : ℕ) (b : Place) (isb : b ≡ place (m.base + (h.to + 2 + n + 1))) (home : Home) (ish : home ≡ in_text (m.base + (h.to + 2)) (m.base + (h.to + 2 + n)))
-      (q₁ : List ℕ) (set : (i : ℕ) → events i q₁ ≡ amend (becomes 41 home) w.event (events i q))
-      (k : ℕ) (keeps : take k (events p.events q₁) ≡ kept w (events p.events q₁)) where
-    pub raw-change : (r : Parser) (q' : List ℕ) → Changed p q₁ o r q' o (staying p (headed w k a.0 b.0)) → (d : Cursor) → d ≡ fresh_of (h.to + 2 + n + 1) false
-        → (t : Parser) → t ≡ moved r d → (line : List ℕ) (c : Cursor) → Changed p q o t q' o (closed_with (viewed m line) (here h p) c w (ahead.Some n))
-    unfolding closed_with
-    raw-change r q' g d isd t ist line c =
-        subst (λ (x : Parser). Changed p q o x q' o (closed_with (viewed m line) (here h p) c w (ahead.Some n))) (sym ist)
-        record {
-          same = λ l. ap (λ (x : Turn). record { cursor = d; state = x.state }) (g.same l) ∙ rw (isd, isa, isb, keeps, set p.events, ish, there);
-          labels = g.labels;
-        }
-      where
-        there : m.base + (h.to + 2 + n) ≡ m.base + (h.to + 2) + n
-        there = omega arith
-
--- the token behind the run, as the rules of the reading say
-module _ (reading : ℕ) (line : List ℕ) (m : Margin) (h : Span) (w : Verbatim) (p : Parser) (b : Bool) (isb : b ≡ (rules_of reading).after w.here)
-    (c : Cursor) (isc : c ≡ flagged b p.cursor) (x : Lexed) (isx : x ≡ peek_of line c)
-    (a : Ahead) (isa : a ≡ format_ahead (viewed m line) h.to x.token) (d : Ahead) (isd : a ≡ d) where
-  pub closes-change : (q o : List ℕ) (r : Parser) (q' : List ℕ) → Changed p q o r q' o (closed_with (viewed m line) (here h p) x.cursor w d)
-      → Changed p q o r q' o (closes_verbatim (rules_of reading) (viewed m line) (here h p) w)
-  closes-change q o r q' g =
-      subst
-      (λ (y : Lexed). Changed p q o r q' o (closed_with (viewed m line) (here h p) y.cursor w (format_ahead (viewed m line) h.to y.token)))
-      (isx ∙ ap (λ (z : Cursor). peek_of line z) (isc ∙ ap (λ (z : Bool). flagged z p.cursor) isb))
-      (subst (λ (y : Ahead). Changed p q o r q' o (closed_with (viewed m line) (here h p) x.cursor w y)) (sym isd ∙ isa) g)
-
--- a raw format lies within the line
-pub closes-small : (line : List ℕ) (m : Margin) (h : Span) (x : Lexed) (a : Ahead) → a ≡ format_ahead (viewed m line) h.to x.token
-    → (n : ℕ) → a ≡ ahead.Some n → Fits line m h → m.base + h.to + 2 + n + 1 ≤ 1048576
-closes-small line m h x a isa n isn f = omega (arith, format-within (viewed m line) h.to n x.token (sym isa ∙ isn), f.small)
-
--- the end of the lines
-module _ (p : Parser) (q : List ℕ) (b : ℕ) where
-  pub ended-out : (o : List ℕ) → p.inside ≡ inside.No → Changed p q o p q o (staying p (ended_at b p.inside))
-  unfolding ended_at
-  ended-out o e = record { same = λ l. rw e; labels = refl }
-
-  module _ (w : Verbatim) (e : p.inside ≡ inside.Verbatim w) where
-    pub ended-opened : OpenedBy p.inside p q → Opened w p q
-    unfolding OpenedBy
-    ended-opened h = subst (λ (x : Inside). OpenedBy x p q) e h
-
-    pub ended-in : (o : List ℕ) (r : Parser) (q' : List ℕ) → Changed p q o r q' o (staying p (headed w p.events b b))
-        → Changed p q o r q' o (staying p (ended_at b p.inside))
-    unfolding ended_at
-    ended-in o r q' g =
-        record {
-          same = λ l. g.same l ∙ rw (e, ← rows_cut event_at p.events p.events q (omega arith));
-          labels = g.labels;
-        }
+-- at the end of the lines all is kept
+pub ended-in : (b : ℕ) (p r : Parser) (w : Verbatim) → p.at.inside ≡ Some w → Queued p r (staying p (headed w p.at.events b b))
+    → Queued p r (staying p (ended_at b p.at.inside))
+unfolding ended_at
+ended-in b p r w e c =
+    queued-as p r _ c _ (rw (e, ← rows_cut event_at p.at.events p.at.events p.queue.now (omega arith)))

@@ -1,4 +1,3 @@
 pub mod Answers
 pub mod Opening
 pub mod Closing
-pub mod Contents

@@ -1,10 +1,9 @@
 -- The call for a fragment (document 02, L1): what is asked behind the reader's questions, and what every room holds afterwards.
-use Rattle.std.specs.Prelude.{ℕ, ◌+◌, ◌*◌, ◌≡◌, List, [], ◌∷◌, Bool, true, false, ◌&&◌, ◌||◌, leb, eqb, length}
+use Rattle.std.specs.Prelude.{ℕ, ◌+◌, ◌*◌, List, [], ◌∷◌, Bool, true, false, ◌&&◌, ◌||◌, leb, eqb, length, Option, Some, None}
+use Rattle.reading.specs.declared.Place.{Place}
 use Rattle.reading.specs.declared.Line.{Line}
 use Rattle.reading.specs.declared.Event.{Event}
 use Rattle.reading.specs.declared.Answer.{Answer}
-use Rattle.reading.specs.declared.Refused.{Refused}
-use Rattle.reading.specs.declared.Refused.TheVariants as refused
 use Rattle.reading.specs.Events.{footnote, reference_link, autolink, enter}
 use Rattle.reading.specs.Reading.{sheet}
 use Rattle.reading.specs.Questions.{Rooms, Outcome, total, label_room, zeros, filled, cleared, outcome}
@@ -18,9 +17,9 @@ unfoldable pub barred : ℕ → Bool
 barred kind = eqb kind footnote || (leb (enter reference_link) kind && leb kind (enter autolink))
 
 -- the first of them: its span start
-unfoldable pub first_barred : List Event → Refused
-first_barred [] = refused.No
-first_barred (e ∷ es) = elim (barred e.kind) [ true ↦ refused.At e.start | false ↦ first_barred es ]
+unfoldable pub first_barred : List Event → Option Place
+first_barred [] = None
+first_barred (e ∷ es) = elim (barred e.kind) [ true ↦ Some e.start | false ↦ first_barred es ]
 
 -- the answer, the four rooms and the output room
 pub record Fragmented : Type 0 where
@@ -41,9 +40,9 @@ refuses code at rooms out = record { answer = refusal code at; rooms = rooms; ou
 
 -- 10: is there no link, image, autolink or footnote reference? 11: does the output room hold the fragment? After both all four rooms are zero;
 -- after acceptance they are as the reader leaves them, and the output is zero behind the fragment
-unfoldable pub judged : Refused → List ℕ → Rooms → Outcome → List ℕ → Fragmented
-judged (refused.At p) f rooms o out = refuses 10 p.0 (cleared rooms) out
-judged refused.No f rooms o out =
+unfoldable pub judged : Option Place → List ℕ → Rooms → Outcome → List ℕ → Fragmented
+judged (Some p) f rooms o out = refuses 10 p.0 (cleared rooms) out
+judged None f rooms o out =
     elim (leb (length f) (length out)) [
       | false ↦ refuses 11 0 (cleared rooms) out
       | true ↦ record { answer = acceptance o.answer (length f); rooms = o.rooms; out = filled f out }

@@ -1,17 +1,15 @@
 #![tactic(auto)]
 // What comes of the reader's answer: questions 10 and 11, and what the call for a fragment leaves.
-ghost use Rattle.std.specs.Prelude.{◌≡◌, ◌*◌, ◌≤◌, length};
+ghost use Rattle.std.specs.Prelude.{◌≡◌, ◌≤◌, ◌/◌, length, IfOk};
 ghost use Rattle.reading.specs.Events.{event_numbers};
-ghost use Rattle.reading.specs.Questions.{cleared};
 ghost use Rattle.outcome.specs.Outcomes.{rooms_of, outcome_of};
-ghost use Rattle.output.specs.Written.{written, Within};
 ghost use Rattle.listing.specs.Listing.{listed};
 ghost use Rattle.markup.specs.Markup.{fragment};
 ghost use Rattle.verdict.specs.Fragments.{barred as barred_of, first_barred, refusal as refusal_of, fragmented_of, behind};
-ghost use Rattle.verdict.specs.Judging.{showing, settled, shown_as, judging, judged_as, Fits, Listed};
+ghost use Rattle.verdict.specs.Judging.{shown, shown_as, code_of, place_of, answer_of, Listed};
 
-use output::{Fill, OUTPUT_ROOM};
-use reading::{Answer, Refused, container, kind};
+use output::OUTPUT_ROOM;
+use reading::{Answer, EVENT_NUMBERS, Place, container, kind};
 
 // The refusal of a link, an image, an autolink or a footnote reference.
 pub const LINKED: u32 = 10;
@@ -29,124 +27,88 @@ pub struct FragmentAnswer {
     pub length: u32,
 }
 
-// All is written, so many bytes; or there is a link, which begins there; or the output room is too short.
+// Why there is no fragment: such a one begins there; or the output room is too short.
 #[derive(Clone, Copy)]
-enum Shown {
-    All(usize),
-    Linked(u32),
-    Short,
+enum Refusal {
+    Linked(Place),
+    OutputRoom,
 }
 
-// A link, an image, an autolink or a footnote reference.
-fn barred(k: u32) -> bool
-    ensures { result ≡ barred_of k }
-{
-    (k == kind::FOOTNOTE_REFERENCE) | ((ENTER_REFERENCE_LINK <= k) & (k <= kind::ENTER_AUTOLINK))
-}
-
-// The first of them.
-fn find_barred(events: &[u32], n: usize) -> Refused
-    requires { n * event_numbers ≤ length events.now }
-    ensures { result ≡ first_barred (listed n events.now) }
-{
-    let mut i = 0;
-    while i < n {
-        let e = listing::event_at(events, i);
-        if barred(e.kind) {
-            let start = e.start;
-            return Refused::At(start);
+impl Refusal {
+    fn code(self) -> u32
+        ensures { result ≡ code_of self }
+    {
+        match self {
+            Refusal::Linked(_) => LINKED,
+            Refusal::OutputRoom => OUTPUT_ROOM,
         }
-        i += 1;
     }
-    Refused::No
-}
 
-// The output room behind what was written.
-fn settle(r: Fill, out: &mut [u8]) -> Shown
-    requires { Within r (length out.old) }
-    ensures { showing result out.new ≡ settled (written r out.old) out.old }
-{
-    match r {
-        Fill::To(n) => {
-            outcome::clear_bytes_behind(out, n);
-            Shown::All(n)
-        }
-        Fill::Full => {
-            outcome::clear_bytes(out);
-            Shown::Short
+    fn place(self) -> u32
+        ensures { result ≡ place_of self }
+    {
+        match self {
+            Refusal::Linked(at) => at.0,
+            Refusal::OutputRoom => 0,
         }
     }
 }
 
-// 10 and 11.
-fn show(text: &[u8], events: &[u32], n: usize, out: &mut [u8]) -> Shown
-    requires { n * event_numbers ≤ length events.now }
-    ensures { showing result out.new ≡ shown_as (first_barred (listed n events.now)) (fragment text.now (listed n events.now)) out.old }
-{
-    let first = find_barred(events, n);
-    match first {
-        Refused::At(at) => {
-            outcome::clear_bytes(out);
-            Shown::Linked(at.0)
-        }
-        Refused::No => {
-            let r = render::render(text, events, n, out);
-            settle(r, out)
-        }
+impl From<Refusal> for FragmentAnswer {
+    ghost from_gives = { λ r a. a ≡ answer_of r };
+
+    fn from(r: Refusal) -> FragmentAnswer {
+        refused(r.code(), r.place())
     }
 }
 
 // Nothing is handed out.
-fn refusal(code: u32, place: u32) -> FragmentAnswer
+fn refused(code: u32, place: u32) -> FragmentAnswer
     ensures { result ≡ refusal_of code place }
 {
     FragmentAnswer {
-        code: code,
-        place: place,
+        code,
+        place,
         events: 0,
         labels: 0,
         length: 0,
     }
 }
 
-// A refusal under 10 or 11: all four rooms are zero.
-fn refuse(
-    code: u32,
-    place: u32,
-    events: &mut [u32],
-    queue: &mut [u32],
-    openers: &mut [u32],
-    labels: &mut [u8],
-) -> FragmentAnswer
-    ensures { judging result (rooms_of events.new queue.new openers.new labels.new) ≡ judging (refusal_of code place)
-        (cleared (rooms_of events.old queue.old openers.old labels.old)) }
+// A link, an image, an autolink or a footnote reference.
+#[tactic(auto, unfolding(crate::specs::Fragments::barred))]
+fn barred(k: u32) -> bool
+    ensures { result ≡ barred_of k }
 {
-    outcome::refuse(code, place, events, queue, openers, labels);
-    refusal(code, place)
+    matches!(
+        k,
+        kind::FOOTNOTE_REFERENCE | ENTER_REFERENCE_LINK..=kind::ENTER_AUTOLINK
+    )
 }
 
-// The answer, by what was written.
-fn judge(
-    shown: Shown,
-    a: Answer,
-    events: &mut [u32],
-    queue: &mut [u32],
-    openers: &mut [u32],
-    labels: &mut [u8],
-) -> FragmentAnswer
-    requires { Fits shown }
-    ensures { judging result (rooms_of events.new queue.new openers.new labels.new) ≡ judged_as shown a (rooms_of events.old queue.old openers.old labels.old) }
+// Where the first of them begins.
+fn find_barred(events: &[u32]) -> Option<Place>
+    ensures { result ≡ first_barred (listed (length events.now / event_numbers) events.now) }
 {
-    match shown {
-        Shown::All(n) => FragmentAnswer {
-            code: 0,
-            place: 0,
-            events: a.events,
-            labels: a.labels,
-            length: n as u32,
-        },
-        Shown::Linked(at) => refuse(LINKED, at, events, queue, openers, labels),
-        Shown::Short => refuse(OUTPUT_ROOM, 0, events, queue, openers, labels),
+    for i in 0..events.len() / EVENT_NUMBERS {
+        let e = listing::event_at(events, i);
+        if barred(e.kind) {
+            return Some(e.start);
+        }
+    }
+    None
+}
+
+// Questions 10 and 11: how long the fragment is, from the front of the output room.
+#[tactic(auto, unfolding(crate::specs::Judging::shown, crate::specs::Judging::shown_as, output::specs::Written::written, output::specs::Written::append, output::specs::Written::Within))]
+fn show(text: &[u8], events: &[u32], out: &mut [u8]) -> Result<usize, Refusal>
+    ensures shown { shown result out.new ≡ shown_as (first_barred (listed (length events.now / event_numbers) events.now))
+        (fragment text.now (listed (length events.now / event_numbers) events.now)) (length out.old) }
+    ensures within { IfOk result (λ n. n ≤ length out.old) }
+{
+    match find_barred(events) {
+        Some(at) => Err(Refusal::Linked(at)),
+        None => render::render(text, events, out).ok_or(Refusal::OutputRoom),
     }
 }
 
@@ -165,9 +127,25 @@ pub fn conclude(
         text.now (listed a.events events.old) (rooms_of events.old queue.old openers.old labels.old) (outcome_of a events.old queue.old openers.old labels.old) out.old }
 {
     if a.code != 0 {
-        outcome::clear_bytes(out);
-        return refusal(a.code, a.place);
+        out.fill(0);
+        return refused(a.code, a.place);
     }
-    let shown = show(text, events, a.events as usize, out);
-    judge(shown, a, events, queue, openers, labels)
+    let handed = a.events as usize * EVENT_NUMBERS;
+    match show(text, &events[..handed], out) {
+        Ok(n) => {
+            out[n..].fill(0);
+            FragmentAnswer {
+                code: 0,
+                place: 0,
+                events: a.events,
+                labels: a.labels,
+                length: n as u32,
+            }
+        }
+        Err(r) => {
+            out.fill(0);
+            outcome::clear_all(events, queue, openers, labels);
+            FragmentAnswer::from(r)
+        }
+    }
 }

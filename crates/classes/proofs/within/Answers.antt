@@ -5,17 +5,13 @@ use Rattle.classes.specs.Sets.{in_set}
 use Rattle.classes.proofs.Rule.{class-flags}
 use Rattle.classes.proofs.within.Goals as goal
 
-pub returns-in-Plain : goal.returns-in-Plain
-unfolding in_set bytes among
-returns-in-Plain c = rw (c.in-Plain.is, c.has.ensures, (class-flags _).special)
-
 pub returns-in-SpaceTab : goal.returns-in-SpaceTab
 unfolding in_set bytes among
 returns-in-SpaceTab c = rw c.in-SpaceTab.is (simp or-false)
 
 pub returns-in-Address : goal.returns-in-Address
 unfolding in_set bytes among
-returns-in-Address c = rw (c.in-Address.is, c.has-in-Address.ensures, (class-flags _).blank) (simp (or-false, or_assoc))
+returns-in-Address c = rw (c.in-Address.is, c.has.ensures, (class-flags _).blank) (simp (or-false, or_assoc))
 
 pub returns-in-Unmarked : goal.returns-in-Unmarked
 unfolding in_set bytes among

@@ -1,45 +1,34 @@
 -- `containers::tried` meets its contract, by the laws of `Sought`.
-use mathlib.Core.List.{[]}
-use mathlib.Core.Path.{sym, ◌∙◌}
-use native.Mathlib.Omega.{arith}
-use borrow.Author.Rules.{rules}
-use Rattle.rooms.specs.Standing.{stands, viewed, here}
-use Rattle.containers.proofs.Sought.{sought-none, sought-within, sought-names, sought-closes, tried-barred}
+use mathlib.Core.Path.{◌≡◌, sym, ◌∙◌}
+use Rattle.std.proofs.Common.{rules, Some, None}
+use Rattle.rooms.specs.Standing.{viewed, here}
+use Rattle.rooms.specs.Steps.{state}
+use Rattle.containers.proofs.Sought.{sought_none, sought-names, sought-closes, sought-not}
 use Rattle.containers.proofs.tried.Goals as goal
 
-pub returns-in_default : goal.returns-in_default
-returns-in_default c q l = sought-none (viewed c.args.m c.args.line.now) (here c.args.h c.args.p)
-    (stands c.args.p q c.args.openers.now l) c.args.openers.now c.args.closes c.args.p.openers c.seek.result
-    c.seek.ensures c.in_default.is
+pub returns-in_err-i-clause-value : goal.returns-in_err-i-clause-value
+returns-in_err-i-clause-value c =
+    let p = c.args.p.now in
+    let is : c.seek.result ≡ None = search rules in
+    search (rules, sought_none (viewed c.args.v.now) (here c.args.h p.at) (state p) p.openers.now c.args.closes p.at.openers c.seek.result c.seek.ensures.sought is)
 
-pub opener_at-requires : goal.opener_at-requires
-opener_at-requires c = let q = [] in
-    let l = [] in
-    omega (
-      arith,
-      sought-within (viewed c.args.m c.args.line.now) (here c.args.h c.args.p)
-          (stands c.args.p q c.args.openers.now l) c.args.openers.now c.args.closes c.args.p.openers c.seek.result
-          c.seek.ensures _ c.in-At.is,
-      c.requires.opener_numbers_in_bounds,
-    )
+pub may_close-requires-clause-event_lt_events : goal.may_close-requires-clause-event_lt_events
+may_close-requires-clause-event_lt_events c =
+    let p = c.args.p.now in
+    let is : c.seek.result ≡ Some c.in_ok-i.i = search rules in
+    sought-names (viewed c.args.v.now) (here c.args.h p.at) (state p) p.openers.now c.args.closes p.at.openers c.seek.result c.seek.ensures.sought
+    _ is c.opener_at.result c.opener_at.ensures p.at.events c.requires.named
 
-pub may_close-requires : goal.may_close-requires
-may_close-requires c = let q = [] in
-    let l = [] in
-    record {
-      from_in_bounds = c.requires.from_in_bounds;
-      event_lt_events = sought-names
-          (viewed c.args.m c.args.line.now) (here c.args.h c.args.p) (stands c.args.p q c.args.openers.now l)
-          c.args.openers.now c.args.closes c.args.p.openers c.seek.result c.seek.ensures _ c.in-At.is
-          c.opener_at.result c.opener_at.ensures c.args.p.events c.requires.named;
-      ruled = c.requires.ruled;
-    }
+pub returns-then-may_close-clause-value : goal.returns-then-may_close-clause-value
+returns-then-may_close-clause-value c =
+    let p = c.args.p.now in
+    let is : c.seek.result ≡ Some c.in_ok-i.i = search rules in
+    sought-closes (viewed c.args.v.now) (here c.args.h p.at) (state p) p.openers.now c.args.closes p.at.openers c.seek.result c.seek.ensures.sought
+    _ is c.opener_at.result c.opener_at.ensures (sym c.may_close.ensures ∙ c.if-may_close.true)
 
-pub returns-then-may_close : goal.returns-then-may_close
-returns-then-may_close c q l = sought-closes (viewed c.args.m c.args.line.now) (here c.args.h c.args.p)
-    (stands c.args.p q c.args.openers.now l) c.args.openers.now c.args.closes c.args.p.openers c.seek.result
-    c.seek.ensures _ c.in-At.is c.opener_at.result c.opener_at.ensures
-    (sym (c.may_close.ensures q c.args.openers.now l) ∙ c.if-may_close.true)
-
-pub returns : goal.returns
-returns c = search (rules, tried-barred)
+pub returns-clause-value : goal.returns-clause-value
+returns-clause-value c =
+    let p = c.args.p.now in
+    let is : c.seek.result ≡ Some c.in_ok-i.i = search rules in
+    sought-not (viewed c.args.v.now) (here c.args.h p.at) (state p) p.openers.now c.args.closes p.at.openers c.seek.result c.seek.ensures.sought
+    _ is c.opener_at.result c.opener_at.ensures (sym c.may_close.ensures ∙ c.if-may_close.false)

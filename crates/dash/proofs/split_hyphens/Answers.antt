@@ -2,28 +2,13 @@
 use Prim.Native.Nat.{◌%◌}
 use mathlib.Core.Logic.{◌⊎◌, inl, inr, ⊎_elim}
 use mathlib.Core.Path.{◌≡◌, ◌∙◌}
-use native.Mathlib.Omega.{arith}
+use borrow.Author.Rules.{rules}
 use Rattle.dash.specs.BySix.{six_cases, by_six}
 use Rattle.dash.proofs.Splits.{split-none, by-six}
 use Rattle.dash.proofs.split_hyphens.Goals as goal
-use Rattle.dash.proofs.split_hyphens.Goals.{in-1-1, in_default-1}
-
-neither : {A B : Type 0} → (A ⊎ B → ⊥) → (A → ⊥) × (B → ⊥)
-neither h = (λ a. h (inl a), λ b. h (inr b))
 
 pub returns-then-len-lt2 : goal.returns-then-len-lt2
 returns-then-len-lt2 c = c.split.ensures ∙ split-none _ c.if-len-lt2.true
-
-pub overflow_sub-len-in-1 : goal.overflow_sub-len-in-1
-overflow_sub-len-in-1 c = let e : c.args.len % 6 ≡ 1 = elim c.in-1-1.branch [
-  | in-1-1 w ↦ w.in-1-1.keys4
-  | in_default-1 w ↦ omega (
-    arith,
-    neither w.in_default-1.rest.0.0.0.1,
-    neither
-        w.in_default-1.rest.0.0.1,
-  )
-] in omega (arith, e)
 
 pub returns-in-0 : goal.returns-in-0
 unfolding six_cases by_six
@@ -37,11 +22,6 @@ pub returns-in-5 : goal.returns-in-5
 unfolding six_cases by_six
 returns-in-5 c = c.split-in-5.ensures ∙ by-six _ c.if-len-lt2.false 5 c.in-5.is
 
-pub returns-in-1 : goal.returns-in-1
+pub returns-in_default : goal.returns-in_default
 unfolding six_cases by_six
-returns-in-1 c = c.split-in-1.ensures ∙ by-six _ c.if-len-lt2.false 1
-    (elim c.in-1-1.branch [
-      | in-1-1 w ↦ w.in-1-1.keys4
-      | in_default-1 w ↦ omega
-          (arith, neither w.in_default-1.rest.0.0.0.1, neither w.in_default-1.rest.0.0.1)
-    ])
+returns-in_default c = c.split-in_default.ensures ∙ by-six _ c.if-len-lt2.false 1 (search rules)

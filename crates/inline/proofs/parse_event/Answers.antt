@@ -1,101 +1,73 @@
 -- `inline::parse_event` meets its contract, by the laws of `Taking`.
 use mathlib.Core.Path.{refl}
 use native.Mathlib.Omega.{arith}
-use Rattle.reading.specs.Events.{str}
 use Rattle.reading.specs.Machine.{rules_of}
-use Rattle.reading.specs.Tokens.{plain}
-use Rattle.rooms.specs.Standing.{viewed, here}
-use Rattle.rooms.proofs.Changing.{changed-stepped}
-use Rattle.links.specs.Linked.{sheet_of}
-use Rattle.outside.proofs.Alone.{alone, text-role}
-use Rattle.outside.proofs.Roles.{as-other}
-use Rattle.inline.proofs.Taking.{event-none, event-within, event-ready, event-label-room, event-ended, event-fits, event-opened, event-room}
-use Rattle.inline.proofs.Taking.{event-outside, event-verbatim}
+use Rattle.rooms.specs.Standing.{viewed}
+use Rattle.rooms.proofs.Changing.{stepped-still, stepped-from, changed-stepped}
+use Rattle.inline.proofs.Taking.{event-none, event-within, event-fits, event-room, event-ready, event-ended, event-opened, event-outside, event-verbatim, event-text}
 use Rattle.inline.proofs.parse_event.Goals as goal
 
 pub returns-in_default : goal.returns-in_default
-returns-in_default c = event-none c.args.text.now c.args.reading c.args.line.now c.args.m c.args.p c.args.queue.now
-    c.args.openers.now c.args.labels.now c.requires.before c.next_token-lexed.result c.next_token-lexed.ensures
-    c.in_default.is
+returns-in_default c =
+    let a = c.args in
+    stepped-still a.p.now _ (event-none a.text.now a.reading (viewed a.v.now) a.p.now c.requires _ c.next_token-lexed.ensures c.in_default.is)
 
 pub overflow_add-h : goal.overflow_add-h
-overflow_add-h c = omega (
-  arith,
-  event-within c.args.text.now c.args.reading c.args.line.now c.args.m c.args.p
-      c.args.queue.now c.args.openers.now c.args.labels.now c.requires.before c.next_token-lexed.result
-      c.next_token-lexed.ensures _ c.in-Some.is,
-  c.requires.before.small,
-)
+overflow_add-h c =
+    let a = c.args in
+    omega (arith, event-within a.text.now a.reading (viewed a.v.now) a.p.now c.requires _ c.next_token-lexed.ensures _ c.in-Some.is, c.requires.small)
 
-pub put-requires : goal.put-requires
-put-requires c = record {
-  fits = event-fits c.args.text.now c.args.reading c.args.line.now c.args.m c.args.p
-      c.args.queue.now c.args.openers.now c.args.labels.now c.requires.before c.next_token-lexed.result
-      c.next_token-lexed.ensures _ c.in-Some.is c.moved-out.result c.moved-out.ensures;
-  room = event-room
-      c.args.text.now c.args.reading c.args.line.now c.args.m c.args.p c.args.queue.now c.args.openers.now
-      c.args.labels.now c.requires.before c.next_token-lexed.result c.next_token-lexed.ensures _ c.in-Some.is
-      c.moved-out.result c.moved-out.ensures;
-}
+pub in_verbatim-requires-clause-fits : goal.in_verbatim-requires-clause-fits
+in_verbatim-requires-clause-fits c =
+    let a = c.args in
+    event-fits a.text.now a.reading (viewed a.v.now) a.p.now c.requires _ c.next_token-lexed.ensures _ c.in-Some.is
+
+pub in_verbatim-requires-clause-opened : goal.in_verbatim-requires-clause-opened
+in_verbatim-requires-clause-opened c =
+    let a = c.args in
+    event-opened a.text.now a.reading (viewed a.v.now) a.p.now c.requires _ c.next_token-lexed.ensures _ c.in-Some.is
+    _ c.in-Some-inside.is _ refl refl
+
+pub in_verbatim-requires-clause-room : goal.in_verbatim-requires-clause-room
+in_verbatim-requires-clause-room c =
+    let a = c.args in
+    event-room a.text.now a.reading (viewed a.v.now) a.p.now c.requires _ c.next_token-lexed.ensures _ c.in-Some.is
+
+pub put-requires-clause-fits : goal.put-requires-clause-fits
+put-requires-clause-fits c =
+    let a = c.args in
+    event-fits a.text.now a.reading (viewed a.v.now) a.p.now c.requires _ c.next_token-lexed.ensures _ c.in-Some.is
+
+pub put-requires-clause-room : goal.put-requires-clause-room
+put-requires-clause-room c =
+    let a = c.args in
+    event-room a.text.now a.reading (viewed a.v.now) a.p.now c.requires _ c.next_token-lexed.ensures _ c.in-Some.is
 
 pub outside-requires : goal.outside-requires
-outside-requires c = record {
-  ready = event-ready c.args.text.now c.args.reading c.args.line.now c.args.m c.args.p
-      c.args.queue.now c.args.openers.now c.args.labels.now c.requires.before c.next_token-lexed.result
-      c.next_token-lexed.ensures _ c.in-Some.is c.moved-out.result c.moved-out.ensures;
-  label_room = event-label-room
-      c.args.text.now c.args.reading c.args.line.now c.args.m c.args.p c.args.queue.now c.args.openers.now
-      c.args.labels.now c.requires.before c.next_token-lexed.result c.next_token-lexed.ensures _ c.in-Some.is
-      c.moved-out.result c.moved-out.ensures;
-  ended = event-ended c.args.text.now c.args.reading c.args.line.now
-      c.args.m c.args.p c.args.queue.now c.args.openers.now c.args.labels.now c.requires.before
-      c.next_token-lexed.result c.next_token-lexed.ensures _ c.in-Some.is c.moved-out.result c.moved-out.ensures
-      c.in-No.is;
-  ruled = c.requires.ruled;
-}
+outside-requires c =
+    let a = c.args in
+    record {
+      ready = event-ready a.text.now a.reading (viewed a.v.now) a.p.now c.requires _ c.next_token-lexed.ensures _ c.in-Some.is
+          _ refl refl refl refl refl;
+      label_room = record { room = c.requires.label_room; links = c.requires.links };
+      ended = event-ended a.text.now a.reading (viewed a.v.now) a.p.now c.requires _ c.next_token-lexed.ensures _ c.in-Some.is
+          c.in-None.is _ refl refl refl;
+    }
 
-pub in_verbatim-requires : goal.in_verbatim-requires
-in_verbatim-requires c = record {
-  fits = event-fits c.args.text.now c.args.reading c.args.line.now c.args.m c.args.p
-      c.args.queue.now c.args.openers.now c.args.labels.now c.requires.before c.next_token-lexed.result
-      c.next_token-lexed.ensures _ c.in-Some.is c.moved-out.result c.moved-out.ensures;
-  opened = event-opened
-      c.args.text.now c.args.reading c.args.line.now c.args.m c.args.p c.args.queue.now c.args.openers.now
-      c.args.labels.now c.requires.before c.next_token-lexed.result c.next_token-lexed.ensures _ c.in-Some.is
-      c.moved-out.result c.moved-out.ensures _ c.in-Verbatim.is;
-  room = event-room c.args.text.now c.args.reading
-      c.args.line.now c.args.m c.args.p c.args.queue.now c.args.openers.now c.args.labels.now c.requires.before
-      c.next_token-lexed.result c.next_token-lexed.ensures _ c.in-Some.is c.moved-out.result c.moved-out.ensures;
-  ruled = c.requires.ruled;
-}
+pub returns-in-Some-inside : goal.returns-in-Some-inside
+returns-in-Some-inside c =
+    let a = c.args in
+    stepped-from a.p.now _ _ _ _ (changed-stepped _ _ _ c.in_verbatim.ensures.changed) refl refl refl
+    (event-verbatim a.text.now a.reading (viewed a.v.now) a.p.now c.requires _ c.next_token-lexed.ensures _ c.in-Some.is _ c.in-Some-inside.is)
 
 pub returns-in-Text : goal.returns-in-Text
-returns-in-Text c = let x = sheet_of (rules_of c.args.reading) c.args.text.now c.args.labels.now in
-    let v = viewed c.args.m c.args.line.now in
-    let s = event-label-room c.args.text.now c.args.reading c.args.line.now c.args.m c.args.p c.args.queue.now
-    c.args.openers.now c.args.labels.now c.requires.before c.next_token-lexed.result c.next_token-lexed.ensures
-    _ c.in-Some.is c.moved-out.result c.moved-out.ensures in
-    event-outside c.args.text.now c.args.reading c.args.line.now c.args.m c.args.p c.args.queue.now
-    c.args.openers.now c.args.labels.now c.requires.before c.next_token-lexed.result c.next_token-lexed.ensures
-    _ c.in-Some.is c.moved-out.result c.moved-out.ensures c.put.result c.put.new.queue c.args.openers.now
-    c.args.labels.now c.in-No.is _ refl
-    (as-other x v (here _ c.moved-out.result) c.moved-out.result c.args.queue.now c.args.openers.now
-    c.args.labels.now c.put.result c.put.new.queue c.args.openers.now c.args.labels.now _ (plain str)
-    (text-role _ c.in-Text.is)
-    (changed-stepped c.moved-out.result c.args.queue.now c.args.openers.now c.put.result c.put.new.queue
-    c.args.openers.now _
-    (alone x v _ c.moved-out.result c.args.queue.now c.args.openers.now c.put.result c.put.new.queue
-    (c.put.ensures c.args.openers.now)) c.args.labels.now s.labels))
+returns-in-Text c =
+    let a = c.args in
+    stepped-from a.p.now _ _ _ _ (changed-stepped _ _ _ c.put.ensures.queued.changed) refl refl refl
+    (event-text a.text.now a.reading (viewed a.v.now) a.p.now c.requires _ c.next_token-lexed.ensures _ c.in-Some.is c.in-None.is c.in-Text.is)
 
 pub returns-in_default-kind : goal.returns-in_default-kind
-returns-in_default-kind c = event-outside c.args.text.now c.args.reading c.args.line.now c.args.m c.args.p
-    c.args.queue.now c.args.openers.now c.args.labels.now c.requires.before c.next_token-lexed.result
-    c.next_token-lexed.ensures _ c.in-Some.is c.moved-out.result c.moved-out.ensures c.outside.result
-    c.outside.new.queue c.outside.new.openers c.outside.new.labels c.in-No.is c.role_of.result c.role_of.ensures
-    (c.outside.ensures (rules_of c.args.reading))
-
-pub returns-in-Verbatim : goal.returns-in-Verbatim
-returns-in-Verbatim c = event-verbatim c.args.text.now c.args.reading c.args.line.now c.args.m c.args.p
-    c.args.queue.now c.args.openers.now c.args.labels.now c.requires.before c.next_token-lexed.result
-    c.next_token-lexed.ensures _ c.in-Some.is c.moved-out.result c.moved-out.ensures c.in_verbatim.result
-    c.in_verbatim.new.queue _ c.in-Verbatim.is (c.in_verbatim.ensures c.args.openers.now)
+returns-in_default-kind c =
+    let a = c.args in
+    stepped-from a.p.now _ _ _ _ (c.outside.ensures (rules_of a.reading)) refl refl refl
+    (event-outside a.text.now a.reading (viewed a.v.now) a.p.now c.requires _ c.next_token-lexed.ensures _ c.in-Some.is c.in-None.is _ c.role_of.ensures)

@@ -1,32 +1,22 @@
--- `outside::noted` meets its contract, by the laws of `Ahead` and `Alone`.
+-- `outside::noted` meets its contract: what the scan accepts lies within the line.
 use mathlib.Core.Path.{sym, ◌∙◌}
 use native.Mathlib.Omega.{arith}
 use lib.ListN.{drop}
+use Rattle.std.proofs.Common.{rules}
 use Rattle.scan.proofs.Laws.{footnote-some}
-use Rattle.rooms.specs.Standing.{viewed, here}
-use Rattle.outside.proofs.Ahead.{scan-within, noted-else, noted-some}
-use Rattle.outside.proofs.Alone.{opening}
+use Rattle.reading.specs.Reading.{noted}
+use Rattle.outside.proofs.Single.{scan-within}
 use Rattle.outside.proofs.noted.Goals as goal
 
-pub returns-in_default : goal.returns-in_default
-returns-in_default c x = let v = viewed c.args.m c.args.line.now in
-    noted-else x v (here c.args.h c.args.p) c.args.p c.args.queue.now c.args.openers.now c.open_as.result
-    c.open_as.new.queue c.open_as.new.openers
-    _ (sym c.ahead_footnote.ensures ∙ c.in_default.is)
-    (opening x v c.args.h c.args.p c.args.queue.now c.args.openers.now c.open_as.result c.open_as.new.queue
-    c.open_as.new.openers c.open_as.ensures)
+pub named-requires-clause-n_bound : goal.named-requires-clause-n_bound
+named-requires-clause-n_bound c =
+    let line = c.args.v.now.bytes.now in
+    let few = footnote-some (drop c.args.h.to line) _ (sym c.ahead_footnote.ensures ∙ c.in-Some.is) in
+    let w = scan-within line c.args.h.to _ few.within c.requires.within in
+    omega (arith, w, c.requires.small)
 
-pub named-requires : goal.named-requires
-named-requires c = let e = sym c.ahead_footnote.ensures ∙ c.in-Some.is in
-    let s = drop c.args.h.to c.args.line.now in
-    let w = scan-within c.args.line.now c.args.h.to _ (footnote-some s _ e).within c.requires.ready.within in
-    record {
-      from_le_to = omega (arith, c.requires.ready.long);
-      n_bound = omega (arith, w, c.requires.ready.small);
-      room = omega (arith, w, c.requires.ready.room, c.requires.ready.long);
-    }
-
-pub returns : goal.returns
-returns c x = noted-some x (viewed c.args.m c.args.line.now) (here c.args.h c.args.p) c.args.p c.args.queue.now
-    c.args.openers.now c.named.result c.named.new.queue c.args.openers.now
-    _ _ (sym c.ahead_footnote.ensures ∙ c.in-Some.is) (c.named.ensures c.args.openers.now c.args.line.now)
+pub returns-in-None : goal.returns-in-None
+unfolding noted
+returns-in-None c x =
+    let e = c.opens.ensures x in
+    search rules

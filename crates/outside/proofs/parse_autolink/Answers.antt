@@ -1,37 +1,30 @@
--- `outside::parse_autolink` meets its contract, by the laws of `Ahead` and `Alone`.
+-- `outside::parse_autolink` meets its contract: what the scan accepts lies within the line.
 use mathlib.Core.Path.{sym, ◌∙◌}
 use native.Mathlib.Omega.{arith}
 use lib.ListN.{drop}
+use Rattle.std.proofs.Common.{rules}
 use Rattle.scan.proofs.Laws.{autolink-some, autolink-long}
-use Rattle.rooms.specs.Standing.{viewed, here}
-use Rattle.outside.proofs.Ahead.{scan-within, angle-else, angle-some}
-use Rattle.outside.proofs.Alone.{alone}
+use Rattle.reading.specs.Reading.{outside, angle}
+use Rattle.outside.proofs.Single.{scan-within}
 use Rattle.outside.proofs.parse_autolink.Goals as goal
 
-pub returns-in_default : goal.returns-in_default
-returns-in_default c x o = let v = viewed c.args.m c.args.line.now in
-    angle-else x v (here c.args.h c.args.p) c.args.p c.args.queue.now o c.put.result c.put.new.queue o
-    (sym c.ahead_autolink.ensures ∙ c.in_default.is)
-    (alone x v c.args.h c.args.p c.args.queue.now o c.put.result c.put.new.queue (c.put.ensures o))
+pub autolinked-requires-clause-n_bound : goal.autolinked-requires-clause-n_bound
+autolinked-requires-clause-n_bound c =
+    let line = c.args.v.now.bytes.now in
+    let few = autolink-some (drop c.args.h.to line) _ (sym c.ahead_autolink.ensures ∙ c.in-Some.is) in
+    let w = scan-within line c.args.h.to _ few.within c.requires.within in
+    omega (arith, w, c.requires.small)
 
-pub autolinked-requires : goal.autolinked-requires
-autolinked-requires c = let e = sym c.ahead_autolink.ensures ∙ c.in-Some.is in
-    let s = drop c.args.h.to c.args.line.now in
-    let w = scan-within c.args.line.now c.args.h.to _ (autolink-some s _ e).within c.requires.token_ready.within in
-    record {
-      from_le_to = omega (arith, c.requires.token_ready.long);
-      n_bound = omega
-          (arith, w, c.requires.token_ready.small);
-      room = omega (
-        arith,
-        w,
-        autolink-long s _ e,
-        c.requires.token_ready.room,
-        c.requires.token_ready.long,
-      );
-    }
+pub autolinked-requires-clause-room : goal.autolinked-requires-clause-room
+autolinked-requires-clause-room c =
+    let line = c.args.v.now.bytes.now in
+    let e = sym c.ahead_autolink.ensures ∙ c.in-Some.is in
+    let few = autolink-some (drop c.args.h.to line) _ e in
+    let w = scan-within line c.args.h.to _ few.within c.requires.within in
+    omega (arith, w, autolink-long (drop c.args.h.to line) _ e, c.requires.room, c.requires.long)
 
-pub returns : goal.returns
-returns c x o = angle-some x (viewed c.args.m c.args.line.now) (here c.args.h c.args.p) c.args.p c.args.queue.now o
-    c.autolinked.result c.autolinked.new.queue o
-    _ (sym c.ahead_autolink.ensures ∙ c.in-Some.is) (c.autolinked.ensures o c.args.line.now)
+pub returns-in-None : goal.returns-in-None
+unfolding outside angle
+returns-in-None c x =
+    let e = c.alone.ensures x in
+    search rules

@@ -1,67 +1,55 @@
--- `outside::parse_footnote_reference` meets its contract, by the laws of `Caret` and `Alone`.
--- some sheet: what is asked is of any
-use mathlib.Core.Path.{refl, sym, ap, ◌∙◌}
-use mathlib.Core.List.{[]}
+-- `outside::parse_footnote_reference` meets its contract: the bracket and the token behind it lie within the line.
+use mathlib.Core.Path.{refl}
 use native.Mathlib.Omega.{arith}
-use Rattle.lex.specs.declared.lex.Cursor.{Cursor}
-use Rattle.lex.specs.Lexer.{next_of}
-use Rattle.reading.specs.Machine.{Sheet}
-use Rattle.reading.specs.Reading.{unasked}
-use Rattle.reading.specs.Tokens.{is_caret as caret-role}
-use Rattle.rooms.specs.Standing.{viewed, moved as moved_to}
-use Rattle.outside.proofs.Caret.{peek-ready, caret-none, caret-no, caret-yes, caret-within, caret-ready}
-use Rattle.outside.proofs.Alone.{opening}
+use Rattle.std.proofs.Common.{rules}
+use Rattle.reading.specs.Reading.{outside, bracketed}
+use Rattle.rooms.specs.Standing.{viewed}
+use Rattle.outside.proofs.Single.{ready-at, peeked-pos, peeked-sound, both-within, both-pos, both-sound}
 use Rattle.outside.proofs.parse_footnote_reference.Goals as goal
 
-abbrev any : Sheet
-any = unasked [] 0 0
-
-pub open_as-requires : goal.open_as-requires
-open_as-requires c = peek-ready any c.args.m c.args.line.now c.args.h c.args.p c.args.queue.now c.args.openers.now
-    c.peek_token-ahead.result c.peek_token-ahead.ensures c.moved-out.result c.moved-out.ensures c.requires.ready
+pub opens-requires : goal.opens-requires
+opens-requires c =
+    let v = viewed c.args.v.now in
+    let p = c.args.p.now in
+    let e = c.peek_token-ahead.ensures in
+    ready-at v c.args.h p _ c.requires c.args.h.to c.requires.long c.requires.within (peeked-pos v c.args.h p c.requires _ e) (peeked-sound v c.args.h p c.requires _ e)
+    refl refl refl refl
 
 pub returns-in_default : goal.returns-in_default
-returns-in_default c x = caret-none x c.args.m c.args.line.now c.args.h c.args.p c.args.queue.now c.args.openers.now
-    c.peek_token-ahead.result c.peek_token-ahead.ensures c.moved-out.result c.moved-out.ensures
-    c.open_as.result c.open_as.new.queue c.open_as.new.openers c.in_default.is
-    (opening x (viewed c.args.m c.args.line.now) c.args.h c.moved-out.result c.args.queue.now c.args.openers.now
-    c.open_as.result c.open_as.new.queue c.open_as.new.openers c.open_as.ensures)
+unfolding outside bracketed
+returns-in_default c x =
+    let e = c.opens.ensures x in
+    search rules
 
 pub overflow_add-both : goal.overflow_add-both
-overflow_add-both c = omega (
-  arith,
-  caret-within any c.args.m c.args.line.now c.args.h c.args.p c.args.queue.now
-      c.args.openers.now c.peek_token-ahead.result c.peek_token-ahead.ensures c.moved-out.result c.moved-out.ensures _
-      c.in-Some.is c.requires.ready,
-  c.requires.ready.small,
-)
+overflow_add-both c =
+    omega (arith, both-within (viewed c.args.v.now) c.args.h c.args.p.now c.requires _ c.peek_token-ahead.ensures c.in-Some.t c.in-Some.is, c.requires.small)
 
 pub noted-requires : goal.noted-requires
-noted-requires c = record {
-  ready = caret-ready any c.args.m c.args.line.now c.args.h c.args.p c.args.queue.now
-      c.args.openers.now c.peek_token-ahead.result c.peek_token-ahead.ensures c.moved-out.result c.moved-out.ensures _
-      c.in-Some.is c.requires.ready (next_of c.args.line.now c.peek_token-ahead.result.cursor) refl c.moved.result
-      (c.moved.ensures ∙ ap (λ (y : Cursor). moved_to c.moved-out.result y) c.skip-behind.ensures);
-  ruled = c.requires.ruled;
-}
+noted-requires c =
+    let v = viewed c.args.v.now in
+    let p = c.args.p.now in
+    let e = c.peek_token-ahead.ensures in
+    ready-at v c.args.h p _ c.requires _ (omega (arith, c.requires.long)) (both-within v c.args.h p c.requires _ e c.in-Some.t c.in-Some.is)
+    (rw c.skip-p.ensures (both-pos v c.args.h p c.requires _ e c.in-Some.t c.in-Some.is))
+    (rw c.skip-p.ensures (both-sound v c.args.h p c.requires _ e c.in-Some.t c.in-Some.is)) refl refl refl refl
 
 pub returns-then-is_caret : goal.returns-then-is_caret
-returns-then-is_caret c x = caret-yes x c.args.m c.args.line.now c.args.h c.args.p c.args.queue.now
-    c.args.openers.now c.peek_token-ahead.result c.peek_token-ahead.ensures c.moved-out.result c.moved-out.ensures
-    c.noted.result c.noted.new.queue c.noted.new.openers _ c.in-Some.is
-    (sym (c.is_caret.ensures ∙ ap caret-role c.role_of.ensures) ∙ c.if-is_caret.true)
-    (next_of c.args.line.now c.peek_token-ahead.result.cursor) refl c.moved.result
-    (c.moved.ensures ∙ ap (λ (y : Cursor). moved_to c.moved-out.result y) c.skip-behind.ensures)
-    (c.noted.ensures x)
+unfolding outside bracketed
+returns-then-is_caret c x =
+    let e = c.noted.ensures x in
+    search rules
 
-pub open_as-requires-2 : goal.open_as-requires-2
-open_as-requires-2 c = peek-ready any c.args.m c.args.line.now c.args.h c.args.p c.args.queue.now c.args.openers.now
-    c.peek_token-ahead.result c.peek_token-ahead.ensures c.moved-out.result c.moved-out.ensures c.requires.ready
+pub opens-requires-2 : goal.opens-requires-2
+opens-requires-2 c =
+    let v = viewed c.args.v.now in
+    let p = c.args.p.now in
+    let e = c.peek_token-ahead.ensures in
+    ready-at v c.args.h p _ c.requires c.args.h.to c.requires.long c.requires.within (peeked-pos v c.args.h p c.requires _ e) (peeked-sound v c.args.h p c.requires _ e)
+    refl refl refl refl
 
 pub returns : goal.returns
-returns c x = caret-no x c.args.m c.args.line.now c.args.h c.args.p c.args.queue.now c.args.openers.now
-    c.peek_token-ahead.result c.peek_token-ahead.ensures c.moved-out.result c.moved-out.ensures
-    c.open_as-2.result c.open_as-2.new.queue c.open_as-2.new.openers _ c.in-Some.is
-    (sym (c.is_caret.ensures ∙ ap caret-role c.role_of.ensures) ∙ c.if-is_caret.false)
-    (opening x (viewed c.args.m c.args.line.now) c.args.h c.moved-out.result c.args.queue.now c.args.openers.now
-    c.open_as-2.result c.open_as-2.new.queue c.open_as-2.new.openers c.open_as-2.ensures)
+unfolding outside bracketed
+returns c x =
+    let e = c.opens-2.ensures x in
+    search rules

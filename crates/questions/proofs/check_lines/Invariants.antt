@@ -1,11 +1,6 @@
 -- `questions::check_lines` meets its contract, by the laws of `Walking`.
-use Prim.Native.Nat.{◌-◌}
-use Rattle.inline.specs.Lines.{lines_of}
 use Rattle.questions.proofs.Walking.{Going}
 use Rattle.questions.proofs.check_lines.Given as goal
 
 abbrev pub invariant-loop-i : goal.invariant-loop-i
-invariant-loop-i l = Going l.text (lines_of l.starts l.ends) l.n l.w l.i
-
-abbrev pub decreases-loop-i : goal.decreases-loop-i
-decreases-loop-i l = l.n - l.i
+invariant-loop-i g l = Going l.text (g.L.Lines.listed l.lines) l.w l.i

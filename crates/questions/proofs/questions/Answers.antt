@@ -1,27 +1,22 @@
--- `questions::questions` meets its contract, by the laws of `Asking`.
-use native.Mathlib.Omega.{arith}
-use Rattle.inline.specs.Lines.{lines_of}
-use Rattle.questions.proofs.Asking.{long-lines, limit-kept, asked-limit, asked-lines}
+-- `questions::questions` meets its contract: the definition's chain, step by step.
+use Rattle.std.proofs.Common.{◌∙◌}
+use Rattle.std.proofs.lemmas.Result.{err_from_is_err_and}
+use Rattle.questions.proofs.Asking.{asked_limit, asked_lines, asked_rooms}
 use Rattle.questions.proofs.questions.Goals as goal
 
-pub returns-then-limit-ne0 : goal.returns-then-limit-ne0
-returns-then-limit-ne0 c = asked-limit c.args.text.now (lines_of c.args.starts.now c.args.ends.now) c.args.reading
-    c.args.queue c.args.openers c.longer.result c.limits-limit.result
-    (long-lines c.args.starts.now c.args.ends.now c.longer.result c.longer.ensures) c.limits-limit.ensures
-    c.refusal.result c.if-limit-ne0.true c.refusal.ensures
+pub returns-in_err-limits : goal.returns-in_err-limits
+returns-in_err-limits g c =
+    let p = err_from_is_err_and c.from_residual.result c.from_residual.ensures.1 in
+    rw (p.1, p.2) (asked_limit _ _ _ _ _ c.limits.ensures c.count.ensures c.in_err-limits.was)
 
-pub check_lines-lines-requires : goal.check_lines-lines-requires
-check_lines-lines-requires c = let k = limit-kept c.args.text.now (lines_of c.args.starts.now c.args.ends.now)
-    c.args.reading c.args.queue c.args.openers c.longer.result c.limits-limit.result
-    (long-lines c.args.starts.now c.args.ends.now c.longer.result c.longer.ensures) c.limits-limit.ensures
-    c.if-limit-ne0.false in record {
-      text_len_bound = k.0;
-      ends_len_bound = omega
-          (arith, k.1, (long-lines c.args.starts.now c.args.ends.now c.longer.result c.longer.ensures));
-    }
+pub returns-in_err-n : goal.returns-in_err-n
+returns-in_err-n g c =
+    let p = err_from_is_err_and c.from_residual-in_err-n.result c.from_residual-in_err-n.ensures.1 in
+    rw (p.1, p.2) (asked_lines _ _ _ _ _ c.limits.ensures c.count.ensures c.in_ok-limits.was
+    c.check_lines.ensures.value c.in_err-n.was)
 
 pub returns : goal.returns
-returns c = asked-lines c.args.text.now (lines_of c.args.starts.now c.args.ends.now) c.args.reading c.args.queue
-    c.args.openers c.longer.result c.limits-limit.result (long-lines c.args.starts.now c.args.ends.now
-    c.longer.result c.longer.ensures) c.limits-limit.ensures c.check_lines-lines.result _ c.if-limit-ne0.false
-    c.check_lines-lines.ensures.value c.ask_rooms.ensures
+returns g c =
+    c.ask_rooms.ensures
+    ∙ asked_rooms _ _ _ _ _ c.limits.ensures c.count.ensures c.in_ok-limits.was
+    c.check_lines.ensures.value c.in_ok-n.was

@@ -1,10 +1,9 @@
--- `replay_sheets::replay` is safe and ends: no more cases than bytes, and no more differences than cases. The measure is what is left of the sample.
-use Prim.Native.Nat.{◌-◌, ◌≤◌}
-use lib.ListN.{length}
+-- No more cases than bytes that were passed, and no more differences than cases.
+use Rattle.std.proofs.Common.{◌+◌, ◌≤◌, length}
 use Rattle.replay_sheets.proofs.replay.Given as goal
 
-abbrev pub invariant-loop-at : goal.invariant-loop-at
-invariant-loop-at l = (l.cases ≤ l.at) × (l.differ ≤ l.cases) × (l.at ≤ length l.sample)
+abbrev pub invariant-loop-rest : goal.invariant-loop-rest
+invariant-loop-rest l = (l.cases + length l.rest ≤ length l.bytes) × (l.differ ≤ l.cases)
 
-abbrev pub decreases-loop-at : goal.decreases-loop-at
-decreases-loop-at l = length l.sample - l.at
+abbrev pub decreases-loop-rest : goal.decreases-loop-rest
+decreases-loop-rest l = length l.rest

@@ -1,9 +1,12 @@
 -- `verbatim::exits` meets its contract, by the laws of `Closing`.
-use Rattle.verbatim.proofs.Closing.{opened-low, exits-change}
+use mathlib.Core.Path.{refl}
+use Rattle.rooms.proofs.Changing.{queued-on, queued-to}
+use Rattle.verbatim.proofs.Closing.{opened-low, exits-turn}
 use Rattle.verbatim.proofs.exits.Goals as goal
 
 pub returns : goal.returns
-returns c o = exits-change c.args.w c.args.p c.args.queue.now o (opened-low c.args.w c.args.p c.args.queue.now
-    c.requires.opened) c.args.n c.requires.n_le_events c.args.start.0 c.args.end.0
-    c.exit_of-e.result c.exit_of-e.ensures c.no_str.result c.no_str.ensures c.push-out.result c.push-out.new.queue
-    (c.push-out.ensures o) c.inside.result c.inside.ensures
+returns c =
+    let p = c.args.p.now in
+    queued-to p _ _ _ _ (queued-on p _ _ _ _ c.cut.ensures.queued c.push.ensures.queued) refl refl refl refl refl
+    (exits-turn c.args.w p _ _ (opened-low c.args.w p c.requires.opened) c.args.n c.args.start.0 c.args.end.0 c.exit_of-e.result c.exit_of-e.ensures
+    c.no_str.result c.no_str.ensures c.cut.ensures.queued c.push.ensures.queued)

@@ -1,26 +1,26 @@
--- `verdict::conclude` meets its contract: the reader's refusals come first.
+-- `verdict::conclude`: the reader's refusals come first.
+use Rattle.std.proofs.Common.{arith, rules}
+use Rattle.std.proofs.lemmas.Grind.{common_steps}
 use Rattle.outcome.specs.Outcomes.{rooms_of}
-use Rattle.listing.specs.Listing.{listed}
-use Rattle.markup.specs.Markup.{fragment}
-use Rattle.verdict.specs.Fragments.{first_barred}
-use Rattle.verdict.proofs.Concluding.{shown-fits, concluded-early, concluded-late}
+use Rattle.verdict.proofs.Concluding.{concluded-early, concluded-ok, concluded-err}
 use Rattle.verdict.proofs.conclude.Goals as goal
 
 pub returns-then-a-ne0 : goal.returns-then-a-ne0
-returns-then-a-ne0 c = concluded-early c.args.text.now (listed c.args.a.events c.args.events.now)
-    (rooms_of c.args.events.now c.args.queue.now c.args.openers.now c.args.labels.now) c.args.a c.args.out.now
-    c.refusal.result (c.clear_bytes.new.room) c.if-a-ne0.true c.refusal.ensures c.clear_bytes.ensures
+returns-then-a-ne0 c =
+    let comes = concluded-early c.args.text.now c.args.events.now c.args.a (rooms_of c.args.events.now c.args.queue.now c.args.openers.now c.args.labels.now) c.args.out.now c.if-a-ne0.true in
+    search (rules, comes)
 
-pub show-shown-requires : goal.show-shown-requires
-show-shown-requires c = c.requires.room c.if-a-ne0.false
+pub overflow_cast-result : goal.overflow_cast-result
+overflow_cast-result c =
+    let comes = concluded-ok c.args.text.now c.args.events.now c.args.a (rooms_of c.args.events.now c.args.queue.now c.args.openers.now c.args.labels.now) c.args.out.now c.requires c.if-a-ne0.false c.show.new.out c.show.auto.out c.in-Ok.n c.in-Ok.ensures.within c.in-Ok.ensures.shown in
+    search (rules, comes.1)
 
-pub judge-requires : goal.judge-requires
-judge-requires c = shown-fits (first_barred (listed c.args.a.events c.args.events.now))
-    (fragment c.args.text.now (listed c.args.a.events c.args.events.now)) c.args.out.now c.show-shown.result
-    (c.show-shown.new.out) c.show-shown.ensures (c.requires.few c.if-a-ne0.false)
+pub returns-in-Ok : goal.returns-in-Ok
+returns-in-Ok c =
+    let comes = concluded-ok c.args.text.now c.args.events.now c.args.a (rooms_of c.args.events.now c.args.queue.now c.args.openers.now c.args.labels.now) c.args.out.now c.requires c.if-a-ne0.false c.show.new.out c.show.auto.out c.in-Ok.n c.in-Ok.ensures.within c.in-Ok.ensures.shown in
+    comes.0 _ (grind (arith, common_steps))
 
-pub returns : goal.returns
-returns c = concluded-late c.args.text.now (listed c.args.a.events c.args.events.now)
-    (rooms_of c.args.events.now c.args.queue.now c.args.openers.now c.args.labels.now) c.args.a c.args.out.now
-    c.show-shown.result (c.show-shown.new.out) c.judge.result _ c.if-a-ne0.false c.show-shown.ensures
-    c.judge.ensures
+pub returns-in-Err : goal.returns-in-Err
+returns-in-Err c =
+    let comes = concluded-err c.args.text.now c.args.events.now c.args.a (rooms_of c.args.events.now c.args.queue.now c.args.openers.now c.args.labels.now) c.args.out.now c.requires c.if-a-ne0.false c.show.new.out c.show.auto.out c.in-Err.r c.in-Err.ensures.shown in
+    search (rules, comes)

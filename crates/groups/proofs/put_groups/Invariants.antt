@@ -1,9 +1,0 @@
--- `groups::put_groups` meets its contract, by the laws of `Turns`.
-use Rattle.groups.proofs.Turns.{Rest}
-use Rattle.groups.proofs.put_groups.Given as goal
-
-abbrev pub invariant-loop-rest : goal.invariant-loop-rest
-invariant-loop-rest l = Rest l.initial.out l.at l.n l.out l.to l.rest
-
-abbrev pub decreases-loop-rest : goal.decreases-loop-rest
-decreases-loop-rest l = l.rest

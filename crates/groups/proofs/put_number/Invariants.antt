@@ -1,0 +1,9 @@
+-- `groups::put_number` meets its contract, by the laws of `Turns`.
+use Rattle.groups.proofs.Turns.{Rest}
+use Rattle.groups.proofs.put_number.Given as goal
+
+abbrev pub invariant-loop-rest : goal.invariant-loop-rest
+invariant-loop-rest l = Rest l.initial.out l.n l.out l.rest
+
+abbrev pub decreases-loop-rest : goal.decreases-loop-rest
+decreases-loop-rest l = l.rest

@@ -1,2 +1,0 @@
--- The laws of the lookup.
-pub mod Looking

@@ -1,0 +1,108 @@
+-- A token that closes nothing: what it is alone, or a span's opener.
+use Rattle.std.specs.Prelude.{Some}
+use Prim.Native.Nat.{ℕ, ◌+◌, ◌≤◌, ◌<◌}
+use mathlib.Core.Path.{◌≡◌, refl, ap, ◌∙◌}
+use mathlib.Core.List.{List}
+use mathlib.Core.Bool.{Bool, true, false}
+use mathlib.Core.Logic.{inl, inr}
+use native.Mathlib.Omega.{arith}
+use borrow.Author.Tests.{eqb-true}
+use lib.Dec.{eqb}
+use lib.ListN.{length, drop, length-drop}
+use Rattle.lex.specs.declared.lex.Token.{Token}
+use Rattle.lex.specs.declared.lex.Lexed.{Lexed}
+use Rattle.lex.specs.Lexer.{next_of, peek_of}
+use Rattle.lex.proofs.Laws.{Sound, peek-kept}
+use Rattle.lex.specs.declared.lex.Kind.{Kind}
+use Rattle.lex.specs.declared.lex.Kind.TheVariants as kinds
+use Rattle.reading.specs.declared.Role.TheVariants as roles
+use Rattle.reading.specs.declared.Sort.TheVariants as sort
+use Rattle.reading.specs.Events.{str}
+use Rattle.reading.specs.Machine.{View, Sheet, put}
+use Rattle.reading.specs.Tokens.{plain, bracket, closed_by, both_ways, role_of}
+use Rattle.reading.specs.Closers.{number}
+use Rattle.reading.specs.Containers.{container, tried, opens_or, open_as, may_open}
+use Rattle.reading.specs.Verbatim.{taken}
+use Rattle.reading.proofs.Ends.{seek-none}
+use Rattle.reading.proofs.Places.{Taken, peeked-taken, peek-sound, peek-place}
+use Rattle.rooms.specs.declared.Parser.{Parser}
+use Rattle.rooms.specs.declared.Span.{Span}
+use Rattle.rooms.specs.Standing.{here}
+use Rattle.rooms.specs.Steps.{state, staying, Changed, Queued}
+use Rattle.rooms.proofs.Changing.{changed-as, queued-as}
+use Rattle.verbatim.specs.Opened.{Dollars}
+use Rattle.containers.specs.Ready.{Ready}
+use Rattle.outside.specs.Outside.{Ended}
+
+pub queued_alone : (x : Sheet) (v : View) (h : Span) (p r : Parser) → Queued p r (staying p (put v str h.from h.to))
+    → Queued p r (container x v (here h p.at) (plain str))
+unfolding tried opens_or
+queued_alone x v h p r c = queued-as p r _ c _ (rw (seek-none (state p).openers))
+
+pub changed_opening : (x : Sheet) (v : View) (h : Span) (p r : Parser) → Changed p r (staying p (open_as v (here h p.at) sort.Span))
+    → Changed p r (container x v (here h p.at) bracket)
+unfolding tried opens_or may_open closed_by both_ways number
+changed_opening x v h p r c = changed-as p r _ c _ (rw (seek-none (state p).openers))
+
+-- what a scan accepts lies within the line
+pub scan-within : (line : List ℕ) (to n : ℕ) → n < length (drop to line) → to ≤ length line → to + n + 1 ≤ length line
+scan-within line to n h t = omega (arith, h, length-drop to line)
+
+-- the dollars that a run takes are those of the newest event
+pub dollars-ended : (p : Parser) (at : ℕ) → Ended p → Dollars (taken p.at.last at) p.at.events p.queue.now × (taken p.at.last at ≤ at)
+unfolding taken
+dollars-ended p at e = go (eqb p.at.last.end.0 at) refl e
+  where
+    go : (b : Bool) → eqb p.at.last.end.0 at ≡ b → Ended p
+        → Dollars (elim b [ true ↦ p.at.last.dollars | false ↦ 0 ]) p.at.events p.queue.now × (elim b [ true ↦ p.at.last.dollars | false ↦ 0 ] ≤ at)
+    go false is e = (record { some = λ z. absurd (omega arith); within = λ z. absurd (omega arith) }, omega arith)
+    go true is (inl z) = (record { some = λ y. absurd (omega (arith, z)); within = λ y. absurd (omega (arith, z)) }, omega (arith, z))
+    go true is (inr w) =
+        (record { some = λ y. w.some; within = λ y. w.within }, omega (arith, w.ends, eqb-true p.at.last.end.0 at is))
+
+-- what is asked of the rooms, at another cursor behind a token that begins at the same place
+pub ready-at : (v : View) (h : Span) (p u : Parser) → Ready v h p → (to : ℕ) → h.from < to → to ≤ length v.bytes → u.at.cursor.pos ≡ to → Sound v.bytes u.at.cursor
+    → u.at.events ≡ p.at.events → u.at.openers ≡ p.at.openers → u.queue ≡ p.queue → u.openers ≡ p.openers
+    → Ready v (record { from = h.from; to = to }) u
+ready-at v h p u w to long within place sound e n q o =
+    record {
+      long = long;
+      within = within;
+      small = w.small;
+      place = place;
+      sound = sound;
+      room = rw (e, q) w.room;
+      few = rw e w.few;
+      shallow = rw n w.shallow;
+      stack = rw (n, o) w.stack;
+      named = rw (e, n, o) w.named;
+    }
+
+-- a bracket, and the token behind it, which is peeked at
+module _ (v : View) (h : Span) (p : Parser) (w : Ready v h p) (a : Lexed) (isa : a ≡ peek_of v.bytes p.at.cursor) where
+  pub peeked-pos : a.cursor.pos ≡ h.to
+  peeked-pos = rw isa (peek-place v.bytes p.at.cursor h.to w.place)
+
+  pub peeked-sound : Sound v.bytes a.cursor
+  peeked-sound = rw isa (peek-sound v.bytes p.at.cursor w.sound)
+
+  module _ (t : Token) (e : a.token ≡ Some t) where
+    both-taken : Taken v.bytes (peek_of v.bytes p.at.cursor).cursor t.len
+    both-taken =
+        peeked-taken v.bytes (peek_of v.bytes p.at.cursor).cursor t (peek-sound v.bytes p.at.cursor w.sound)
+        ((peek-kept v.bytes p.at.cursor).held ∙ rw isa at e)
+
+    -- the two lie within the line, with a sound cursor behind them
+    pub both-within : h.to + t.len ≤ length v.bytes
+    both-within = omega (arith, both-taken.within, peek-place v.bytes p.at.cursor h.to w.place)
+
+    pub both-pos : (next_of v.bytes a.cursor).cursor.pos ≡ h.to + t.len
+    both-pos = rw isa (both-taken.place ∙ ap (λ (n : ℕ). n + t.len) (peek-place v.bytes p.at.cursor h.to w.place))
+
+    pub both-sound : Sound v.bytes (next_of v.bytes a.cursor).cursor
+    both-sound = rw isa both-taken.sound
+
+-- text
+pub text-role : (k : Kind) → k ≡ kinds.Text → role_of k ≡ roles.Other (plain str)
+unfolding role_of
+text-role k e = rw e

@@ -1,0 +1,5 @@
+pub mod Pairing
+pub mod Beginning
+pub mod Resuming
+pub mod Asking
+pub mod Sheets
