@@ -13,7 +13,7 @@ import sys
 
 # of the Rust, of the toolchain, of what is built, of the README's snippets and the example in docs/PROVING.md
 OUTSIDE = set("""some_of upto_some crates/scan/proofs/upto_some/Answers.antt rattle-kit-13f grind libexports.a cmp lex.rs inline.rs attr.rs
-    is_ascii_whitespace set_current_line VecDeque memset perf ../shared/docs crates/door/src/main.rt target/staticlib/libmivurakol.a""".split())
+    is_ascii_whitespace set_current_line VecDeque memset perf ../shared/docs crates/door/src/main.rt target/staticlib/libmivurakol.a out/""".split())
 # gone, or under another name now, and said to be: in docs/CHANGES.md, docs/PORT.md and docs/REVIEW.md
 GONE = set("""Shelved shelved Shelf Shelves Shelving shelve roomy pour pile Bits Telling reader/specs/Asking classes/special_bit_lost
     lexer/line_in_verbatim later_as_str reading/event_too_many Hidden proofs/Twin/ proofs/Twin twin.txt Proof.antt libc Line-of fact_2 labels_after
