@@ -1,7 +1,7 @@
 #![tactic(auto)]
-// Events that are put behind the queue: one for a token, those of an accepted scan, of hyphens and of periods. What the rules ask of the
-// newest event is noted as it is put.
-ghost use Rattle.std.specs.Prelude.{◌≡◌, ◌+◌, ◌-◌, ◌*◌, ◌≤◌, ◌<◌, length};
+// Events that are put behind the queue: one for a token, those of an accepted scan, of hyphens and
+// of periods. What the rules ask of the newest event is noted as it is put.
+ghost use Rattle.std.specs.Prelude.{◌≡◌, ◌+◌, ◌-◌, ◌*◌, ◌≤◌, ◌<◌, length, None};
 ghost use Rattle.reading.specs.Events as events;
 ghost use Rattle.reading.specs.Events.{largest};
 ghost use Rattle.reading.specs.Machine.{dollars_of, last_of, puts};
@@ -12,19 +12,14 @@ ghost use Rattle.rooms.specs.Standing.{viewed, here, Fits};
 ghost use Rattle.rooms.specs.Steps.{Queued, Room, staying};
 
 use lex::Cursor;
-use reading::{Home, Last, Link, NO_HOME, Place, kind};
+use reading::{Home, Last, NOWHERE, kind};
 use rooms::{Parser, Span, View};
 
 // No home.
 pub fn nowhere() -> Home
     ensures { result ≡ events.nowhere }
 {
-    Home {
-        home: NO_HOME,
-        start: Place(0),
-        end: Place(0),
-        link: Link(0),
-    }
+    NOWHERE
 }
 
 // A dollar before the i-th byte that no backslash takes out.
@@ -37,49 +32,33 @@ fn dollar(v: &View, i: usize) -> bool
 }
 
 // How many dollars at the end of a Str a run of backticks behind it takes.
+#[tactic(auto, using(std::proofs::lemmas::Bool::Decides::nat_tests), unfolding(reading::specs::Machine::dollars_of))]
 fn dollars_of(v: &View, h: Span) -> u32
     requires { h.to ≤ length v.now.bytes.now }
     ensures { result ≡ dollars_of (viewed v.now) h.from h.to }
 {
-    if h.to <= h.from {
-        return 0;
-    }
-    if !dollar(v, h.to) {
-        return 0;
-    }
-    if h.to - h.from == 1 {
+    if h.from < h.to && dollar(v, h.to) {
+        if h.from + 1 < h.to && dollar(v, h.to - 1) {
+            return 2;
+        }
         return 1;
     }
-    if dollar(v, h.to - 1) {
-        return 2;
-    }
-    1
+    0
 }
 
-// The newest event is no Str.
-pub fn no_str() -> Last
-    ensures { result ≡ machine.no_str }
-{
-    Last {
-        str: false,
-        end: Place(0),
-        dollars: 0,
-    }
-}
-
-// What is noted of an event of a kind.
-fn last_of(v: &View, kind: u32, h: Span) -> Last
+// What is noted of an event of a kind: nothing, if it is no Str.
+#[tactic(auto, using(std::proofs::lemmas::Bool::Decides::nat_tests), unfolding(reading::specs::Machine::last_of))]
+fn last_of(v: &View, kind: u32, h: Span) -> Option<Last>
     requires { Fits (viewed v.now) h }
     ensures { result ≡ last_of (viewed v.now) kind h.from h.to }
 {
     if kind == kind::STR {
-        return Last {
-            str: true,
+        return Some(Last {
             end: v.place(h.to),
             dollars: dollars_of(v, h),
-        };
+        });
     }
-    no_str()
+    None
 }
 
 // An event without home of a token.
@@ -96,13 +75,13 @@ pub fn put(p: &mut Parser, v: &View, kind: u32, h: Span)
 fn row(p: &mut Parser, v: &View, kind: u32, w: usize, n: usize, i: usize)
     requires w_bound { v.now.base + i + n * w ≤ largest }
     requires room { Room n p.old }
-    ensures queued { Queued p.old p.new (staying p.old (puts (spec.row kind w n (v.now.base + i)) machine.no_str)) }
+    ensures queued { Queued p.old p.new (staying p.old (puts (spec.row kind w n (v.now.base + i)) None)) }
     ensures count { p.new.at.events ≡ p.old.at.events + n }
 {
-    p.at.last = no_str();
+    p.at.last = None;
     let mut at = i;
     for _ in 0..n {
-        p.push(v.homed(kind, nowhere(), at, at + w), no_str());
+        p.push(v.homed(kind, nowhere(), at, at + w), None);
         at += w;
     }
 }
@@ -128,7 +107,7 @@ pub fn dashes(p: &mut Parser, v: &View, h: Span)
     requires from_bound { h.from + 2 ≤ h.to }
     requires to_bound { v.now.base + h.to ≤ largest }
     requires room { Room (h.to - h.from) p.old }
-    ensures { Queued p.old p.new (staying p.old (puts (spec.dashes (dashes_of (h.to - h.from)) (v.now.base + h.from)) machine.no_str)) }
+    ensures { Queued p.old p.new (staying p.old (puts (spec.dashes (dashes_of (h.to - h.from)) (v.now.base + h.from)) None)) }
 {
     let d = dash::split_hyphens(h.to - h.from);
     row(p, v, kind::EM_DASH, 3, d.em, h.from);
@@ -137,30 +116,26 @@ pub fn dashes(p: &mut Parser, v: &View, h: Span)
 
 // An autolink: behind `<`, an address of n bytes, and `>`.
 pub fn autolinked(p: &mut Parser, v: &View, h: Span, n: usize)
-    requires from_le_to { h.from ≤ h.to }
     requires n_bound { v.now.base + h.to + n + 1 ≤ largest }
     requires room { Room 3 p.old }
     ensures { Queued p.old p.new (spec.autolinked (viewed v.now) (here h p.old.at) n) }
 {
     let end = h.to + n;
     let home = v.in_text(h.to, end);
-    p.push(v.homed(kind::ENTER_AUTOLINK, home, h.from, h.to), no_str());
-    p.push(v.homed(kind::STR, nowhere(), h.to, end), no_str());
-    p.push(v.homed(kind::EXIT_AUTOLINK, home, end, end + 1), no_str());
+    p.push(v.homed(kind::ENTER_AUTOLINK, home, h.from, h.to), None);
+    p.push(v.homed(kind::STR, nowhere(), h.to, end), None);
+    p.push(v.homed(kind::EXIT_AUTOLINK, home, end, end + 1), None);
     p.at.cursor = Cursor::new(end + 1, false);
 }
 
-// A symbol or a footnote reference, by its kind: a name of n bytes behind the token, and one byte that closes.
+// A symbol or a footnote reference, by its kind: a name of n bytes behind the token, and one byte
+// that closes.
 pub fn named(p: &mut Parser, v: &View, h: Span, kind: u32, n: usize)
-    requires from_le_to { h.from ≤ h.to }
     requires n_bound { v.now.base + h.to + n + 1 ≤ largest }
     requires room { Room 1 p.old }
     ensures { Queued p.old p.new (spec.named kind (viewed v.now) (here h p.old.at) n) }
 {
     let end = h.to + n;
-    p.push(
-        v.homed(kind, v.in_text(h.to, end), h.from, end + 1),
-        no_str(),
-    );
+    p.push(v.homed(kind, v.in_text(h.to, end), h.from, end + 1), None);
     p.at.cursor = Cursor::new(end + 1, false);
 }

@@ -49,13 +49,13 @@ module _ (input : List ℕ) (s₀ : State) where
 
   module _ (n : ℕ) (s : State) (going : Going n s) where
     -- all are fed
-    pub going-all : length input ≤ n → s ≡ fed input s₀
+    pub going_all : length input ≤ n → s ≡ fed input s₀
     unfolding fed
-    going-all h = rw (drop_of_length-le input h) at going
+    going_all h = rw (drop_of_length-le input h) at going
 
     -- a decided state is where all lead
-    pub going-decided : is_decided s ≡ true → s ≡ fed input s₀
-    going-decided e = sym (decided-stays (drop n input) s e) ∙ going
+    pub going_decided : is_decided s ≡ true → s ≡ fed input s₀
+    going_decided e = sym (decided-stays (drop n input) s e) ∙ going
 
     -- one more
     pub going_on : n < length input → (t : State) → t ≡ step s (get_or input n 0) → Going (n + 1) t

@@ -1,4 +1,5 @@
-// The attribute validator of `attr.rs`: the states, a step over one byte, and a validator that is fed bytes.
+// The attribute validator of `attr.rs`: the states, a step over one byte, and a validator that is
+// fed bytes.
 ghost use Rattle.std.specs.Prelude.{◌≡◌};
 ghost use Rattle.attr.specs.Attributes.{name, opening, parts, comment, first, rest, key, value, quoted, escaped, continued};
 ghost use Rattle.attr.specs.Attributes.{step, fed, is_done, is_decided};
@@ -22,6 +23,7 @@ impl Validator {
     }
 
     // Goes on over some bytes, up to the first that decides.
+    #[tactic(auto, using(crate::proofs::Feeding::going_all, crate::proofs::Feeding::going_decided, crate::proofs::Feeding::going_on))]
     pub fn parse(self, input: &[u8]) -> Validator
         ensures { result ≡ record { state = fed input.now self.state } }
     {
@@ -39,8 +41,7 @@ impl Validator {
     pub fn decided(self) -> bool
         ensures { result ≡ is_decided self.state }
     {
-        let state = self.state;
-        state.decided()
+        self.state.decided()
     }
 
     // An attribute block stands there.
@@ -75,7 +76,9 @@ pub enum State {
 }
 
 impl State {
-    // One byte. Where the source panics, what is decided stays so.
+    // One byte. Where the source panics, what is decided stays so. The match and the rows below are
+    // the source's table: rows of one shape (`opening` and `escaped`, `key` and `value`) name other
+    // bytes and other states, and one function of both would hide which state it is of.
     #[tactic(auto, unfolding(crate::specs::Attributes::step))]
     fn step(self, c: u8) -> State
         ensures { result ≡ step self c }

@@ -1,5 +1,6 @@
 #![tactic(auto)]
-// Attribute blocks, beside `attr.rs` of the source: whether one stands at a brace. Nothing is read of it.
+// Attribute blocks, beside `attr.rs` of the source: whether one stands at a brace. Nothing is read
+// of it.
 mod attr;
 
 pub use attr::{State, Validator};

@@ -35,22 +35,22 @@ bit-read n true e = rw e
 bit-read n false e = rw e
 
 -- each flag is read back from the number
-pub record Flags (b : ℕ) : Type 0 where
-  pub special : flagged 1 b ≡ special b
-  pub blank : flagged 2 b ≡ blank b
-  pub punctuation : flagged 4 b ≡ punctuation b
-  pub alphanumeric : flagged 8 b ≡ alphanumeric b
+module _ (b : ℕ) where
+  bits : (bit (special b) ≤ 1) × (bit (blank b) ≤ 1) × (bit (punctuation b) ≤ 1) × (bit (alphanumeric b) ≤ 1)
+  bits = (bit-small _, bit-small _, bit-small _, bit-small _)
 
-pub class-flags : (b : ℕ) → Flags b
-unfolding class_of
-class-flags b =
-    let s = bit-small (special b) in
-    let k = bit-small (blank b) in
-    let p = bit-small (punctuation b) in
-    let a = bit-small (alphanumeric b) in
-    record {
-      special = bit-read (class_of b / 1 % 2) (special b) (omega arith);
-      blank = bit-read (class_of b / 2 % 2) (blank b) (omega arith);
-      punctuation = bit-read (class_of b / 4 % 2) (punctuation b) (omega arith);
-      alphanumeric = bit-read (class_of b / 8 % 2) (alphanumeric b) (omega arith);
-    }
+  pub special_flag : flagged 1 b ≡ special b
+  unfolding class_of
+  special_flag = bit-read (class_of b / 1 % 2) (special b) (omega (arith, bits))
+
+  pub blank_flag : flagged 2 b ≡ blank b
+  unfolding class_of
+  blank_flag = bit-read (class_of b / 2 % 2) (blank b) (omega (arith, bits))
+
+  pub punctuation_flag : flagged 4 b ≡ punctuation b
+  unfolding class_of
+  punctuation_flag = bit-read (class_of b / 4 % 2) (punctuation b) (omega (arith, bits))
+
+  pub alphanumeric_flag : flagged 8 b ≡ alphanumeric b
+  unfolding class_of
+  alphanumeric_flag = bit-read (class_of b / 8 % 2) (alphanumeric b) (omega (arith, bits))

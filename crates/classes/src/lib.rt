@@ -1,5 +1,6 @@
 #![tactic(auto)]
-// Byte classes, and runs of bytes of one set. Special, blank, punctuation and alphanumeric are read from one table.
+// Byte classes, and runs of bytes of one set. Special, blank, punctuation and alphanumeric are read
+// from one table.
 mod table;
 
 ghost use Rattle.std.specs.Prelude.{◌≡◌, ◌<◌, eqb};
@@ -16,7 +17,8 @@ const PUNCTUATION: u8 = 4;
 
 const ALPHANUMERIC: u8 = 8;
 
-// A set of bytes that a run is made of.
+// A set of bytes that a run is made of. An enum, where the source passes a closure: the definition
+// names the sets (`in_set`), and one law serves the scans and the lexer's text.
 #[derive(Clone, Copy)]
 pub enum Set {
     // Text: not special.
@@ -35,7 +37,7 @@ pub enum Set {
     Format,
 }
 
-// One flag of a byte, from the table.
+// One flag of a byte, from the table, as the definition asks for it (`flagged`).
 fn has(b: u8, flag: u8) -> bool
     requires { 0 < flag }
     ensures { result ≡ flagged flag b }
@@ -43,18 +45,21 @@ fn has(b: u8, flag: u8) -> bool
     class_of(b) / flag % 2 == 1
 }
 
+#[tactic(auto, using(crate::proofs::Rule::blank_flag))]
 pub fn is_blank(b: u8) -> bool
     ensures { result ≡ blank b }
 {
     has(b, BLANK)
 }
 
+#[tactic(auto, using(crate::proofs::Rule::punctuation_flag))]
 pub fn is_punctuation(b: u8) -> bool
     ensures { result ≡ punctuation b }
 {
     has(b, PUNCTUATION)
 }
 
+#[tactic(auto, using(crate::proofs::Rule::alphanumeric_flag))]
 pub fn is_alphanumeric(b: u8) -> bool
     ensures { result ≡ alphanumeric b }
 {
@@ -62,6 +67,7 @@ pub fn is_alphanumeric(b: u8) -> bool
 }
 
 // Text.
+#[tactic(auto, using(crate::proofs::Rule::special_flag), unfolding(crate::specs::Sets::in_set))]
 fn is_plain(b: u8) -> bool
     ensures { result ≡ in_set Set.Plain b }
 {
@@ -69,6 +75,7 @@ fn is_plain(b: u8) -> bool
 }
 
 // A byte of a set.
+#[tactic(auto, using(crate::proofs::Rule::blank_flag, crate::proofs::Rule::alphanumeric_flag), unfolding(crate::specs::Sets::in_set, crate::specs::Classes::bytes, crate::specs::Classes::among))]
 fn within(b: u8, set: Set) -> bool
     ensures { result ≡ in_set set b }
 {
@@ -83,7 +90,8 @@ fn within(b: u8, set: Set) -> bool
     }
 }
 
-// How many bytes at the front are text.
+// How many bytes at the front are text. With a loop of its own beside `eat_while`, which asks at
+// each byte what set it is of.
 #[tactic(auto, unfolding(crate::specs::Sets::run))]
 pub fn eat_plain(s: &[u8]) -> usize
     ensures { result ≡ run (in_set Set.Plain) s.now }

@@ -13,7 +13,8 @@ const CLASSES: [u8; 256] = [
     0, 0, 0, 0, 0, 0, 0, 0, 0, 0, 0, 0, 0, 0, 0, 0, 0, 0, 0, 0, 0, 0, 0, 0, 0, 0, 0, 0, 0, 0, 0, 0,
 ];
 
-// The flags of a byte.
+// The flags of a byte. The table is read through a borrow of the whole program's time: an array
+// that is indexed itself is laid out where it is read.
 pub fn class_of(b: u8) -> u8
     ensures { result ≡ class_of b }
 {

@@ -26,7 +26,7 @@ use Rattle.reading.specs.Naming.{Names, Named}
 use Rattle.reading.proofs.Named.{named-seek}
 use Rattle.reading.proofs.Places.{peeked-taken, peek-sound, peek-place}
 use Rattle.rooms.specs.declared.Parser.{Parser}
-use Rattle.rooms.specs.declared.Span.{Span}
+use Rattle.rooms.specs.declared.span.Span.{Span}
 use Rattle.rooms.specs.Records.{opener_at, opens, place}
 use Rattle.rooms.specs.Standing.{here}
 use Rattle.rooms.specs.Steps.{state}
@@ -101,9 +101,6 @@ module _ (v : View) (h : Here) (s : State) (o : List ℕ) (mark : Option Closer)
   module _ (i : ℕ) (e : f ≡ Some i) where
     found : (i < n) × (seek mark (opens n o) ≡ opener_at o i ∷ opens i o)
     found = found_at o mark n i (sym isf ∙ e)
-
-    pub sought-within : i < n
-    sought-within = found.0
 
     pub sought-names : (x : Opener) → x ≡ opener_at o i → (k : ℕ) → Named (opens n o) k → x.event < k
     unfolding Named

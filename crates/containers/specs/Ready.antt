@@ -10,7 +10,7 @@ use Rattle.reading.specs.Containers.{closes_span, may_close}
 use Rattle.reading.specs.Naming.{Named}
 use Rattle.rooms.specs.declared.Status.{Status}
 use Rattle.rooms.specs.declared.Parser.{Parser}
-use Rattle.rooms.specs.declared.Span.{Span}
+use Rattle.rooms.specs.declared.span.Span.{Span}
 use Rattle.rooms.specs.Steps.{state}
 
 pub record Ready (v : View) (h : Span) (p : Parser) : Type 0 where

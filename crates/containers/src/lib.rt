@@ -1,5 +1,6 @@
 #![tactic(auto)]
-// Containers, quotes and spans: `parse_container` of the source. A token as a closer, then as an opener, then alone.
+// Containers, quotes and spans: `parse_container` of the source. A token as a closer, then as an
+// opener, then alone.
 ghost use Rattle.std.specs.Prelude.{◌≡◌, ℕ, ◌+◌, ◌*◌, ◌^◌, ◌≤◌, ◌<◌, length, IfSome};
 ghost use Rattle.lex.specs.Lexer.{peek_of};
 ghost use Rattle.lex.specs.declared.lex.Cursor.{Cursor};
@@ -16,8 +17,8 @@ ghost use Rattle.containers.specs.Ready.{Ready, LabelRoom, along_with, span_clos
 use reading::{Closer, DelimEventKind, Marks, Opener, Pair, Sort, kind};
 use rooms::{Parser, Span, View};
 
-// The newest opener that a token closes is the only one tried. An empty pair does not close, except spans and links; a two-way one does not
-// close after a blank.
+// The newest opener that a token closes is the only one tried. An empty pair does not close, except
+// spans and links; a two-way one does not close after a blank.
 #[tactic(auto, using(rooms::proofs::Changing::queue_long), unfolding(reading::specs::Containers::may_close))]
 fn may_close(p: &Parser, v: &View, h: Span, o: Opener) -> bool
     requires from_in_bounds { h.from ≤ length v.now.bytes.now }
@@ -36,9 +37,9 @@ fn peeked(p: &mut Parser, v: &View)
     p.at.cursor = lexer::peek_token(v.bytes, p.at.cursor).cursor;
 }
 
-// A container or a pair of quotes: the opener's event becomes the first of the pair, and the second is put.
+// A container or a pair of quotes: the opener's event becomes the first of the pair, and the second
+// is put.
 fn closes_pair(p: &mut Parser, v: &View, h: Span, pair: Pair, o: Opener)
-    requires from_le_to { h.from ≤ h.to }
     requires to_bound { v.now.base + h.to ≤ largest }
     requires event_lt_events { o.event < p.old.at.events }
     requires room { Room 1 p.old }
@@ -46,7 +47,7 @@ fn closes_pair(p: &mut Parser, v: &View, h: Span, pair: Pair, o: Opener)
 {
     p.set_kind(o.event, pair.first, atoms::nowhere());
     let e = v.homed(pair.second, atoms::nowhere(), h.from, h.to);
-    p.push(e, atoms::no_str());
+    p.push(e, None);
 }
 
 // The bracket behind a span opens a link, and is used up.
@@ -76,8 +77,7 @@ fn closes_span(p: &mut Parser, v: &View, h: Span, image: bool, o: Opener)
     let ahead = lexer::peek_token(v.bytes, p.at.cursor);
     p.at.cursor = ahead.cursor;
     atoms::put(p, v, kind::STR, h);
-    let next = ahead.token;
-    let Some(t) = next else {
+    let Some(t) = ahead.token else {
         return;
     };
     let Some(inline) = tables::takes(tables::role_of(t.kind)) else {
@@ -95,13 +95,11 @@ fn closes_span(p: &mut Parser, v: &View, h: Span, image: bool, o: Opener)
 fn blank_after(v: &View, to: usize) -> bool
     ensures { (from : ℕ) (c : Cursor) → result ≡ spec.blank_after (viewed v.now) (record { from = from; to = to; cursor = c }) }
 {
-    if v.bytes.len() <= to {
-        return true;
-    }
-    classes::is_blank(v.bytes[to])
+    v.bytes.len() <= to || classes::is_blank(v.bytes[to])
 }
 
-// A two-way opener does not open before a blank or the line's end; a single quote not directly after a Str unless a blank stands before it.
+// A two-way opener does not open before a blank or the line's end; a single quote not directly
+// after a Str unless a blank stands before it.
 #[tactic(auto, unfolding(reading::specs::Containers::may_open))]
 fn may_open(p: &Parser, v: &View, h: Span, sort: Sort) -> bool
     requires { h.from ≤ length v.now.bytes.now }
@@ -109,7 +107,7 @@ fn may_open(p: &Parser, v: &View, h: Span, sort: Sort) -> bool
 {
     let blank = classes::is_blank(v.byte_before(h.from));
     !(tables::two_way(sort) & blank_after(v, h.to))
-        & !(tables::is_single(sort) & p.at.last.str & !blank)
+        & !(tables::is_single(sort) & p.at.last.is_some() & !blank)
 }
 
 // An opener, and its event: what it is if it is never closed.
@@ -139,7 +137,8 @@ fn opens_or(p: &mut Parser, v: &View, h: Span, k: Marks)
     }
 }
 
-// What the end of each sort makes. Behind it the token is peeked at, unless a bracket was taken along.
+// What the end of each sort makes. Behind it the token is peeked at, unless a bracket was taken
+// along.
 #[tactic(auto, unfolding(reading::specs::Containers::close_as))]
 fn close_as(p: &mut Parser, text: &[u8], v: &View, h: Span, o: Opener)
     requires ready { Ready (viewed v.now) h p.old }
@@ -161,7 +160,8 @@ fn close_as(p: &mut Parser, text: &[u8], v: &View, h: Span, o: Opener)
     }
 }
 
-// The opener that a token closes: the newest that it can close is sought, and only that one is tried.
+// The opener that a token closes: the newest that it can close is sought, and only that one is
+// tried.
 #[tactic(auto, unfolding(crate::specs::Ready::closable))]
 fn tried(p: &Parser, v: &View, h: Span, closes: Option<Closer>) -> Option<usize>
     requires from_in_bounds { h.from ≤ length v.now.bytes.now }
@@ -176,7 +176,8 @@ fn tried(p: &Parser, v: &View, h: Span, closes: Option<Closer>) -> Option<usize>
     None
 }
 
-// A token closes an opener, with which all newer ones are discarded; or opens; or is what it is alone.
+// A token closes an opener, with which all newer ones are discarded; or opens; or is what it is
+// alone.
 pub fn parse_container(p: &mut Parser, text: &[u8], v: &View, h: Span, k: Marks)
     requires ready { Ready (viewed v.now) h p.old }
     requires label_room { LabelRoom p.old }

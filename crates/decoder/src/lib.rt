@@ -9,7 +9,8 @@ use groups::NumberError;
 use packing::{Fault, FaultAt};
 use reading::{EVENT_NUMBERS, Event, Home, Link, NO_HOME, Place};
 
-// The bytes of a list, and the place up to which they are read.
+// The bytes of a list, and the place up to which they are read: a fault has a place in the whole
+// list.
 #[derive(Clone, Copy)]
 struct Input<'a> {
     bytes: &'a [u8],
@@ -17,6 +18,7 @@ struct Input<'a> {
 }
 
 impl<'a> Input<'a> {
+    // A number. The match maps each error to its fault, and to the place that is its own.
     #[tactic(auto, unfolding(packing::specs::Unpacked::number_as))]
     fn number(&mut self) -> Result<u32, FaultAt>
         ensures { Read self.old a_number result self.new }
@@ -106,8 +108,8 @@ impl<'a> Input<'a> {
     }
 }
 
-// The events of a list, of which there are so many. A room that holds them all has them from its
-// front.
+// The events of a list: how many there are, whether the room holds them or not. A room that holds
+// them all has them from its front.
 pub fn list(bytes: &[u8], room: &mut [u32]) -> Result<usize, FaultAt>
     ensures { held (length room.old / event_numbers) result room.new ≡ holding (length room.old / event_numbers) (unpacked bytes.now) }
 {

@@ -1,9 +1,9 @@
--- What an answer says to the caller, and a queue in a room that holds its events and in one that does not.
-use Rattle.std.specs.Prelude.{Option, None, Some}
+-- A queue in a room that holds its events, and rows of one that does and of one that does not.
+use Rattle.std.specs.Prelude.{None, Some}
 use Prim.Native.Nat.{ℕ, ◌/◌}
 use mathlib.Core.Path.{◌≡◌, refl}
 use mathlib.Core.List.{List, [], ◌∷◌, ◌++◌}
-use mathlib.Core.Bool.{Bool, true, false}
+use mathlib.Core.Bool.{true}
 use borrow.Author.Tests.{leb-true}
 use lib.Dec.{leb}
 use lib.ListN.{length, drop}
@@ -13,23 +13,6 @@ use Rattle.reading.specs.Events.{event, str, softbreak, event_numbers}
 use Rattle.reading.specs.Draining.{flushed, drained, drain}
 use Rattle.reading.specs.Questions.{numbers}
 use Rattle.drain.specs.Handing.{answered, handed}
-
--- the answer names the count of the events, which the room holds
-pub answered-count : (k cap n : ℕ) → answered k cap ≡ Some n → (n ≡ k) × (leb k cap ≡ true)
-unfolding answered
-answered-count k cap n e = go (leb k cap) e
-  where
-    go : (t : Bool) → ◌≡◌ {A = Option ℕ} (elim t [ true ↦ Some k | false ↦ None ]) (Some n) → (n ≡ k) × (t ≡ true)
-    go true e = (cc, refl)
-    go false e = cc
-
-pub answered-too-many : (k cap : ℕ) → answered k cap ≡ None → leb k cap ≡ false
-unfolding answered
-answered-too-many k cap e = go (leb k cap) e
-  where
-    go : (t : Bool) → ◌≡◌ {A = Option ℕ} (elim t [ true ↦ Some k | false ↦ None ]) None → t ≡ false
-    go true e = cc
-    go false e = refl
 
 -- all of them stand in the room
 pub handed-all : (es : List Event) (room : List ℕ) → leb (length es) (length room / event_numbers) ≡ true

@@ -15,18 +15,13 @@ use Rattle.reading.specs.Events.{event_numbers}
 use Rattle.reading.specs.Questions.{record_of, numbers}
 use Rattle.listing.proofs.Listed.{numbers-length}
 use Rattle.drain.specs.Handing.{answered, handed}
-use Rattle.drain.specs.Storing.{Out, out, put, put_all}
-
-pub put-all-append : (xs ys : List Event) (s : Out) → put_all (xs ++ ys) s ≡ put_all ys (put_all xs s)
-unfolding put_all
-put-all-append [] ys s = refl
-put-all-append (x ∷ xs) ys s = put-all-append xs ys (put x s.answer s.room)
+use Rattle.drain.specs.Storing.{out, put, put_all}
 
 -- a full room stays as it is
-pub put-all-full : (es : List Event) (room : List ℕ) → put_all es (out None room) ≡ out None room
+pub put_all_full : (es : List Event) (room : List ℕ) → put_all es (out None room) ≡ out None room
 unfolding put_all put
-put-all-full [] room = refl
-put-all-full (e ∷ es) room = put-all-full es room
+put_all_full [] room = refl
+put_all_full (e ∷ es) room = put_all_full es room
 
 -- one event, where the room holds it and where not
 module _ (e : Event) (k : ℕ) (room : List ℕ) where
@@ -99,7 +94,7 @@ module _ (k : ℕ) (pre post : List ℕ) (l : length pre ≡ k * event_numbers) 
     put-all-out : length (pre ++ post) / event_numbers ≤ k → PutAll (e ∷ es) k pre post
     unfolding put_all
     put-all-out h =
-        rw (put-out e k (pre ++ post) h, put-all-full es (pre ++ post), answered-full (k + suc (length es)) (length (pre ++ post) / event_numbers) (omega arith))
+        rw (put-out e k (pre ++ post) h, put_all_full es (pre ++ post), answered-full (k + suc (length es)) (length (pre ++ post) / event_numbers) (omega arith))
         (λ t. out None (pre ++ sym (handed-full (e ∷ es) post short) t))
       where
         short : length post < event_numbers

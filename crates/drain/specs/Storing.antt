@@ -1,5 +1,5 @@
 -- Events put into a room one by one: what the functions of this crate do. That it comes to `answered` and `handed` is a law.
-use Rattle.std.specs.Prelude.{ℕ, suc, ◌*◌, ◌/◌, List, [], ◌∷◌, true, false, ltb, length, Option, Some, None}
+use Rattle.std.specs.Prelude.{ℕ, suc, ◌*◌, ◌/◌, ◌≡◌, List, [], ◌∷◌, true, false, ltb, length, Option, Some, None}
 use Rattle.drain.specs.declared.Held.{Held}
 use Rattle.std.proofs.lemmas.List.Edits.{sets}
 use Rattle.reading.specs.declared.Event.{Event}
@@ -29,7 +29,18 @@ unfoldable pub put_all : List Event → Out → Out
 put_all [] s = s
 put_all (e ∷ es) s = put_all es (put e s.answer s.room)
 
--- the events of the queue that are left, behind what is held
-unfoldable pub rest : List Event → Option Held → List ℕ → Out
-rest es (Some h) room = put_all (drained h.start h.end es) (out (Some h.count) room)
-rest es None room = out None room
+-- of events of the queue, what is to be put out behind the Str that is held
+abbrev pub behind : Held → List Event → List Event
+behind h es = drained h.start h.end es
+
+-- what was put out by the answer r and what is then held, and the events that are left behind it. A
+-- full room stays as it is
+unfoldable pub after : Option (Unit {0}) → Held → List Event → Out
+after (Some _) h left = put_all left (out (Some h.count) h.room.now)
+after None h left = out None h.room.now
+
+-- from what is held to the answer r and what is then held, in the same lent room: of the events es
+-- all are put out but those that are left; or r is None, and the room was full before their last
+pub record Puts (h : Held) (es : List Event) (r : Option (Unit {0})) (h' : Held) (left : List Event) : Type 0 where
+  pub same : after r h' left ≡ after (Some tt) h es
+  pub lent : h'.room.ghost_name ≡ h.room.ghost_name

@@ -1,9 +1,10 @@
 #![tactic(auto)]
 // Writing a packed list: whether an event can be written, its bytes, and those of all.
-ghost use Rattle.std.specs.Prelude.{◌≡◌, ◌-◌, ◌≤◌, ◌/◌, length, take, is_none, IfOk};
+ghost use Rattle.std.specs.Prelude.{◌≡◌, ◌-◌, ◌≤◌, ◌/◌, [], length, take, is_none, IfOk};
 ghost use Rattle.output.specs.Written.{Adds};
 ghost use Rattle.groups.specs.Groups.{spelled_all};
-ghost use Rattle.packing.specs.Packed.{fields, packed, idle as idle_of, flaw_of, first_flaw};
+ghost use Rattle.reading.specs.Homes.{has_link};
+ghost use Rattle.packing.specs.Packed.{given, present, fields, packed, idle as idle_of, flaw_of, first_flaw};
 ghost use Rattle.encoder.specs.Encoding.{whole, put_as, Forward};
 
 use groups::put_number;
@@ -11,8 +12,8 @@ use output::Output;
 use packing::LARGEST;
 use reading::{EVENT_NUMBERS, Event, NO_HOME};
 
-// Why a list is not written: the first event that cannot be, or its bytes are more than the room
-// holds.
+// Why a list is not written: the first event that cannot be written, or a room that does not hold
+// the bytes.
 #[derive(Clone, Copy, Debug, PartialEq, Eq)]
 pub enum PutError {
     Flaw(usize),
@@ -43,7 +44,7 @@ fn sound(i: usize, prev: u32, e: Event) -> bool
 }
 
 // An event behind one that ends at prev.
-#[tactic(auto, unfolding(groups::specs::Groups::spelled_all, packing::specs::Packed::fields, packing::specs::Packed::given))]
+#[tactic(auto, unfolding(groups::specs::Groups::spelled_all, packing::specs::Packed::fields))]
 fn put_event(out: &mut Output, prev: u32, e: Event) -> Option<()>
     requires { Forward prev e }
     ensures { Adds out.old (spelled_all (fields prev e)) result out.new }
@@ -52,6 +53,18 @@ fn put_event(out: &mut Output, prev: u32, e: Event) -> Option<()>
     put_number(out, e.start.0 - prev)?;
     put_number(out, e.end.0 - e.start.0)?;
     put_number(out, e.home)?;
+    put_behind_home(out, e)
+}
+
+// The numbers behind an event's home: its range if there is a home, and the link number of a kind
+// with one.
+#[tactic(auto, unfolding(groups::specs::Groups::spelled_all, packing::specs::Packed::given))]
+fn put_behind_home(out: &mut Output, e: Event) -> Option<()>
+    requires { e.home_start.0 ≤ e.home_end.0 }
+    ensures { Adds out.old (spelled_all (given (present e.home) e.home_start.0
+        (given (present e.home) (e.home_end.0 - e.home_start.0)
+        (given (has_link e.kind) e.link.0 [])))) result out.new }
+{
     if e.home != NO_HOME {
         put_number(out, e.home_start.0)?;
         put_number(out, e.home_end.0 - e.home_start.0)?;
@@ -62,7 +75,8 @@ fn put_event(out: &mut Output, prev: u32, e: Event) -> Option<()>
     Some(())
 }
 
-// The whole records of a room, written from the front of another. They are so many bytes there.
+// The whole records of a room, written from the front of another. It hands out how many bytes they
+// are, as the answer has it, and no part of the room: what lies behind is the caller's to clear.
 // Behind the event at which the room ends the others are looked at: a flaw comes before the room.
 pub fn put_list(events: &[u32], room: &mut [u8]) -> Result<usize, PutError>
     ensures answer { result ≡ put_as (first_flaw 0 0 (whole events.now))

@@ -1,6 +1,7 @@
 #![tactic(auto)]
 // What the comparison with the Rust calls, besides the C interface: the leaves, with tokens and
-// cursors as numbers, and the reader on two number slices. `exports_c` has them under their C names.
+// cursors as numbers, and the reader on two number slices. `exports_c` has them under their C
+// names.
 ghost use Rattle.std.specs.Prelude.{◌≡◌, ◌+◌, ◌/◌, ◌≤◌, length, drop};
 ghost use Rattle.attr.specs.Attributes.{fed};
 ghost use Rattle.lex.specs.Lexer.{fresh_of, peek_of, next_of};
@@ -19,7 +20,11 @@ use dash::{Dashes, Dots};
 use lex::{Cursor, Delimiter, Kind, Lexed, Sequence, Symbol, Token};
 use reading::Answer;
 
-// The kinds by their numbers: the way back from `kind_number`, since no number is cast to a variant.
+// Behind the kinds.
+pub const NO_TOKEN: u32 = 42;
+
+// The kinds by their numbers: the way back from `kind_number`, since no number is cast to a
+// variant.
 const KINDS: [Kind; 42] = [
     Kind::Text,
     Kind::Newline,
@@ -87,7 +92,8 @@ const STATES: [State; 18] = [
     State::Invalid,
 ];
 
-// A token: the number of its kind, and its length. 42 is the kind of no token.
+// A token: the number of its kind, and its length. No token is a kind too, `NO_TOKEN`, for the C
+// interface.
 #[repr(C)]
 #[derive(Clone, Copy)]
 pub struct Mark {
@@ -95,7 +101,7 @@ pub struct Mark {
     pub len: usize,
 }
 
-// A cursor.
+// A cursor, with its flag as C sees it.
 #[repr(C)]
 #[derive(Clone, Copy)]
 pub struct CursorNumbers {
@@ -113,7 +119,7 @@ pub struct Step {
     pub state: CursorNumbers,
 }
 
-// What a scan found.
+// What a scan found: a flag and a length, for the C interface.
 #[repr(C)]
 #[derive(Clone, Copy)]
 pub struct Scanned {
@@ -129,6 +135,8 @@ pub struct Counts {
     pub second: usize,
 }
 
+// The number of a kind, as C has it: five alone, and then a row of numbers for each of the others,
+// by what it is of. No `From`, since both types are of other crates.
 fn kind_number(kind: Kind) -> u32
     ensures { result ≡ kind_number kind }
 {
@@ -154,7 +162,10 @@ impl From<Option<Token>> for Mark {
                 kind: kind_number(t.kind),
                 len: t.len,
             },
-            None => Mark { kind: 42, len: 0 },
+            None => Mark {
+                kind: NO_TOKEN,
+                len: 0,
+            },
         }
     }
 }
@@ -220,6 +231,7 @@ impl From<Option<usize>> for Scanned {
     }
 }
 
+// Each split names its counts, in this order.
 impl From<Dashes> for Counts {
     ghost from_gives = { λ d c. c ≡ dash_counts d };
 
@@ -242,6 +254,7 @@ impl From<Dots> for Counts {
     }
 }
 
+// The state of a number. No `From`, since both types are of other crates.
 #[tactic(auto, unfolding(crate::specs::Numbers::states, crate::specs::Numbers::validator_state))]
 fn validator_state(n: u32) -> State
     ensures { result ≡ validator_state n }

@@ -1,5 +1,6 @@
 #![tactic(auto)]
-// The functions of `exports` under their C names: the static library that the comparison links.
+// The functions of `exports` under their C names: the static library that the comparison links. A
+// crate is a library or a static library and not both, and `replay` calls the library's.
 ghost use Rattle.std.specs.Prelude.{◌≡◌, ◌+◌, ◌/◌, ◌≤◌, length, drop};
 ghost use Rattle.attr.specs.Attributes.{fed};
 ghost use Rattle.lex.specs.Lexer.{fresh_of, peek_of, next_of};

@@ -7,7 +7,8 @@ ghost use Rattle.reading.specs.Walked.{AcceptedHomes};
 ghost use Rattle.outcome.specs.Outcomes.{rooms_of};
 ghost use Rattle.verdict.specs.Fragments.{fragmented_of, fragmented, read_of, Shows, enough};
 
-use reading::{Answer, Line};
+use outcome::Rooms;
+use reading::Line;
 use verdict::FragmentAnswer;
 
 // Reads a sheet, as `records::read`, and writes its fragment from the front of the output room.
@@ -30,6 +31,12 @@ pub fn write(
     ensures events_suffice { total lines.now + 1 ≤ length events.old / event_numbers → result.code ≡ 9 → ⊥ }
     ensures output_suffices { enough lines.now ≤ length out.old → result.code ≡ 11 → ⊥ }
 {
-    let a: Answer = records::read(text, lines, reading, events, queue, openers, labels);
-    verdict::conclude(a, text, events, queue, openers, labels, out)
+    let a = records::read(text, lines, reading, events, queue, openers, labels);
+    let mut rooms = Rooms {
+        events,
+        queue,
+        openers,
+        labels,
+    };
+    verdict::conclude(a, text, &mut rooms, out)
 }

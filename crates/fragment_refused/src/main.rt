@@ -1,5 +1,5 @@
 #![tactic(auto)]
-// `./fragment`: the fragment of a sheet of standard input. A sheet has at most 1,000 bytes.
+// `./fragment`, on a sheet with a link, which is refused.
 use std::io;
 
 fn main(rt: HostRuntime) -> io::Result<()> {

@@ -48,26 +48,26 @@ module _ {o₀ : Output} {n : ℕ} {o : Output} {rest : ℕ} (x : Rest o₀ n o 
     abbrev group : List ℕ
     group = (128 + rest % 128) ∷ []
 
-    pub rest-turn : Adds o group (Some tt) o' → Rest o₀ n o' (rest / 128)
+    pub rest_turn : Adds o group (Some tt) o' → Rest o₀ n o' (rest / 128)
     unfolding limit
-    rest-turn w = by x.k x.small x.left
+    rest_turn w = by x.k x.small x.left
       where
         by : (k : ℕ) → rest < limit k → Left o₀ (spelled n) o (groups k rest) → Rest o₀ n o' (rest / 128)
         by zero l y = absurd (omega (arith, l))
         by (suc k) l y =
             record { k = k; small = omega (arith, l); left = left_less group (groups k (rest / 128)) o' (rw (more-groups k rest h) at y) w }
 
-    pub rest-full : Adds o group None o' → Adds o₀ (spelled n) None o'
+    pub rest_full : Adds o group None o' → Adds o₀ (spelled n) None o'
     unfolding limit
-    rest-full w = by x.k x.small x.left
+    rest_full w = by x.k x.small x.left
       where
         by : (k : ℕ) → rest < limit k → Left o₀ (spelled n) o (groups k rest) → Adds o₀ (spelled n) None o'
         by zero l y = absurd (omega (arith, l))
         by (suc k) l y = left-full group (groups k (rest / 128)) o' (rw (more-groups k rest h) at y) w
 
   -- the last group
-  pub rest-last : rest < 128 → (r : Option (Unit {0})) → Adds o (rest ∷ []) r o' → Adds o₀ (spelled n) r o'
-  rest-last h r w = left-then (rest ∷ []) r o' (rw (one-group x.k rest h) at x.left) w
+  pub rest_last : rest < 128 → (r : Option (Unit {0})) → Adds o (rest ∷ []) r o' → Adds o₀ (spelled n) r o'
+  rest_last h r w = left-then (rest ∷ []) r o' (rw (one-group x.k rest h) at x.left) w
 
 -- groups that were read, and those behind them: so many bytes make low, and w is the weight of the
 -- next group
@@ -250,9 +250,9 @@ module _ (bytes : List ℕ) (at : ℕ) where
     first : number_at bytes at ≡ placed at (front 4 (b ∷ drop (at + 1) bytes))
     first = ap (λ (bs : List ℕ). placed at (front 4 bs)) (drop-cons bytes at 0 h ∙ sym (λ t. is t ∷ drop (add-one at t) bytes))
 
-    pub number-one : b < 128 → Ok (b, at + 1) ≡ number_at bytes at
+    pub number_one : b < 128 → Ok (b, at + 1) ≡ number_at bytes at
     unfolding placed
-    number-one l = sym (first ∙ ap (placed at) (front-one 4 b _ (λ e. absurd (omega arith)) l))
+    number_one l = sym (first ∙ ap (placed at) (front-one 4 b _ (λ e. absurd (omega arith)) l))
 
     pub number_more : 128 ≤ b → placed at (more (b - 128) (front 3 (drop (at + 1) bytes))) ≡ number_at bytes at
     unfolding front

@@ -7,10 +7,10 @@ ghost use Rattle.groups.specs.Groups.{spelled, front, placed, more as more_of, n
 
 use output::Output;
 
-// The high bit; and so many numbers a group tells apart.
+// The high bit of a group, and how many numbers its other seven bits tell apart.
 const HIGH: u32 = 128;
 
-// A number has so many groups at most, and the last of so many is at most so much.
+// The most groups of a number, and the largest fifth group.
 const GROUPS: usize = 5;
 
 const FIFTH: u32 = 15;
@@ -24,7 +24,8 @@ pub enum NumberError {
     TooLarge,
 }
 
-// A number behind what is written.
+// A number behind what is written. Goes by what is left of the number.
+#[tactic(auto, using(crate::proofs::Turns::rest_all, crate::proofs::Turns::rest_turn))]
 pub fn put_number(out: &mut Output, n: u32) -> Option<()>
     ensures { Adds out.old (spelled n) result out.new }
 {
@@ -61,7 +62,9 @@ fn more(bytes: &[u8], at: usize, low: u32) -> Result<(u32, usize), NumberError>
     Err(NumberError::Cut)
 }
 
-// The number that stands at a place, and the place behind it.
+// The number that stands at a place, and the place behind it. It takes the bytes and the place, as
+// the definition does.
+#[tactic(auto, using(crate::proofs::Turns::number_cut, crate::proofs::Turns::number_one, crate::proofs::Turns::number_more))]
 pub fn number_at(bytes: &[u8], at: usize) -> Result<(u32, usize), NumberError>
     ensures { result ≡ number_at bytes.now at }
 {

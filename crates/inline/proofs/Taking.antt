@@ -3,13 +3,14 @@ use Rattle.std.specs.Prelude.{None, Option, Some}
 use Prim.Native.Nat.{ℕ, ◌+◌, ◌≤◌}
 use mathlib.Core.Path.{◌≡◌, refl, sym, ap, ◌∙◌, subst}
 use mathlib.Core.List.{List}
-use mathlib.Core.Logic.{inl, inr, ⊎_elim}
+use mathlib.Core.Logic.{inl, inr}
 use native.Mathlib.Omega.{arith}
 use lib.ListN.{length}
 use Rattle.lex.specs.declared.lex.Kind.TheVariants as kinds
 use Rattle.lex.specs.declared.lex.Token.{Token}
 use Rattle.lex.specs.declared.lex.Lexed.{Lexed}
 use Rattle.lex.specs.Lexer.{next_of}
+use Rattle.reading.specs.declared.Last.{Last}
 use Rattle.reading.specs.declared.Place.{Place}
 use Rattle.reading.specs.declared.Role.{Role}
 use Rattle.reading.specs.declared.Role.TheVariants as roles
@@ -23,12 +24,12 @@ use Rattle.reading.specs.Reading.{outside, by_place, here_at, on_token, step, un
 use Rattle.reading.proofs.Ends.{seek-none}
 use Rattle.reading.proofs.Places.{HereOk, here-ok}
 use Rattle.rooms.specs.declared.Parser.{Parser}
-use Rattle.rooms.specs.declared.Span.{Span}
+use Rattle.rooms.specs.declared.span.Span.{Span}
 use Rattle.rooms.specs.Standing.{Fits}
 use Rattle.rooms.specs.Steps.{state, turn, staying, Room}
 use Rattle.verbatim.specs.Opened.{Opened, OpenedBy}
 use Rattle.containers.specs.Ready.{Ready}
-use Rattle.outside.specs.Outside.{Ending, Ended}
+use Rattle.outside.specs.Outside.{Ended, EndedBy}
 use Rattle.outside.proofs.Single.{text-role}
 use Rattle.inline.specs.Asks.{Before, ending, Closing}
 
@@ -44,9 +45,9 @@ module _ (text : List ℕ) (reading : ℕ) (v : View) (p : Parser) (b : Before v
   unfolding on_token
   event-none e = sym (ap (λ (y : Option Token). on_token x v (turn p) y a.cursor) e) ∙ by_token
 
-  module _ (t : Token) (ist : a.token ≡ Some t) where
+  module _ (t : Token) (ist : a.token ≡ Some t) (o : p.at.cursor.pos ≤ p.at.cursor.pos + t.len) where
     abbrev h : Span
-    h = record { from = p.at.cursor.pos; to = p.at.cursor.pos + t.len }
+    h = record { from = p.at.cursor.pos; to = p.at.cursor.pos + t.len; ordered = o }
 
     abbrev there : Here
     there = record { from = h.from; to = h.to; cursor = a.cursor }
@@ -58,7 +59,7 @@ module _ (text : List ℕ) (reading : ℕ) (v : View) (p : Parser) (b : Before v
     event-within = ok.within
 
     pub event-fits : Fits v h
-    event-fits = record { ordered = omega (arith, ok.long); within = ok.within; small = b.small }
+    event-fits = record { within = ok.within; small = b.small }
 
     pub event-room : Room 1 p
     event-room = omega (arith, b.room, ok.long, ok.within)
@@ -81,11 +82,12 @@ module _ (text : List ℕ) (reading : ℕ) (v : View) (p : Parser) (b : Before v
         }
 
     pub event-ended : p.at.inside ≡ None → (u : Parser) → u.at.events ≡ p.at.events → u.at.last ≡ p.at.last → u.queue ≡ p.queue → Ended u
-    event-ended e u n l q =
-        ⊎_elim
-        (λ (z : p.at.last.dollars ≡ 0). inl (rw l z))
-        (λ (w : Ending p). inr record { some = rw n w.some; within = rw (n, l, q) w.within; ends = rw l w.ends })
-        (b.ended e)
+    event-ended e u n l q = subst (λ (last : Option Last). EndedBy last u) (sym l) (go p.at.last (b.ended e))
+      where
+        go : (last : Option Last) → EndedBy last p → EndedBy last u
+        go None w = tt
+        go (Some k) (inl z) = inl z
+        go (Some k) (inr w) = inr record { some = rw n w.some; within = rw (n, q) w.within; ends = w.ends }
 
     pub event-opened : (w : Verbatim) → p.at.inside ≡ Some w → (u : Parser) → u.at.events ≡ p.at.events → u.queue ≡ p.queue → Opened w u
     unfolding OpenedBy

@@ -1,21 +1,22 @@
 -- The tokens of a line: the steps that are left, from the state at hand, give what all of them give. The bounds come from the invariant of the
 -- definition.
 use Rattle.std.specs.Prelude.{None, Option, Some}
+use Rattle.reading.specs.declared.Last.{Last}
 use Rattle.reading.specs.declared.Place.{Place}
 use Rattle.reading.specs.declared.Verbatim.{Verbatim}
 use Prim.Native.Nat.{ℕ, zero, suc, ◌+◌, ◌-◌, ◌*◌, ◌^◌, ◌≤◌, ◌<◌}
 use mathlib.Core.Path.{◌≡◌, refl, sym, ap, ◌∙◌, subst}
 use mathlib.Core.List.{List}
 use mathlib.Core.Bool.{true, false}
-use mathlib.Core.Logic.{inl, inr, ⊎_elim}
 use native.Mathlib.Nat.{sub-zero}
+use mathlib.Core.Logic.{inl, inr}
 use native.Mathlib.Omega.{arith}
 use borrow.Author.Tests.{leb-true, leb-false}
 use lib.ListN.{length, get_or}
 use Rattle.reading.specs.Machine.{View, Sheet, Turn}
 use Rattle.reading.specs.Verbatim.{nothing}
 use Rattle.reading.specs.Reading.{step, steps, unasked}
-use Rattle.reading.proofs.Good.{GoodBy, Ends}
+use Rattle.reading.proofs.Good.{GoodBy, LastOk}
 use Rattle.reading.proofs.Ends.{ends_last, ends-wide, ends_some}
 use Rattle.reading.proofs.Queue.{inner-enters}
 use Rattle.reading.proofs.Named.{good-named}
@@ -32,7 +33,7 @@ use Rattle.rooms.specs.Steps.{state, turn, turning, Lent, Stepped}
 use Rattle.rooms.proofs.Rows.{rows-length, rows_at, stack-length}
 use Rattle.rooms.proofs.Changing.{lent-then}
 use Rattle.verbatim.specs.Opened.{OpenedBy}
-use Rattle.outside.specs.Outside.{Ended}
+use Rattle.outside.specs.Outside.{Ended, EndedBy}
 use Rattle.inline.specs.Asks.{Before, over_of}
 use Rattle.inline.proofs.Begins.{Begins}
 
@@ -80,25 +81,25 @@ module _ (text : List ℕ) (at n : ℕ) (p : Parser) where
 
   good-ended : (w : Option Verbatim) → w ≡ None → GoodBy Any text w at n (state p) → Ended p
   unfolding GoodBy
-  good-ended None e g =
-      ⊎_elim
-      (λ (z : p.at.last.dollars ≡ 0). inl z)
-      (λ (z : Ends p.at.last.dollars p.at.last.end.0 (state p).queue).
-      let some = ends_some p.at.last.dollars p.at.last.end.0 (state p).queue z in
-      let long = rows-length event_at p.at.events p.queue.now in
-      let last : length (state p).queue ≡ suc (p.at.events - 1) = omega (arith, some, long) in
-      let k = kinds (p.at.events - 1) (omega (arith, some, long)) in
-      let ends = ends_last p.at.last (state p).queue (p.at.events - 1) nothing z last in
-      let wide = ends-wide p.at.last (state p).queue (p.at.events - 1) nothing z last in
-      inr record {
-        some = omega (arith, some, long);
-        within = rw k at (within_end (get_or (state p).queue (p.at.events - 1) nothing).start.0 p.at.last.dollars (get_or (state p).queue (p.at.events - 1) nothing).end.0 wide);
-        ends = omega (arith, ends, wide);
-      })
-      g.last
+  good-ended None e g = go p.at.last g.last
     where
       within_end : (a d b : ℕ) → a + d ≤ b → d ≤ b
       within_end a d b h = omega arith
+
+      go : (last : Option Last) → LastOk last (state p).queue → EndedBy last p
+      go None z = tt
+      go (Some l) z =
+          let some = ends_some l.dollars l.end.0 (state p).queue z in
+          let long = rows-length event_at p.at.events p.queue.now in
+          let last : length (state p).queue ≡ suc (p.at.events - 1) = omega (arith, some, long) in
+          let it = get_or (state p).queue (p.at.events - 1) nothing in
+          let ends = ends_last l (state p).queue (p.at.events - 1) nothing z last in
+          let wide = ends-wide l (state p).queue (p.at.events - 1) nothing z last in
+          inr record {
+            some = omega (arith, some, long);
+            within = rw (kinds (p.at.events - 1) (omega (arith, some, long))) at (within_end it.start.0 l.dollars it.end.0 wide);
+            ends = omega (arith, ends, wide);
+          }
   good-ended (Some w) e g = let z : ◌≡◌ {A = ℕ} 0 1 = cc in absurd (omega arith)
 
 -- the loop's invariant: of the parser p₀ at first, with k steps behind

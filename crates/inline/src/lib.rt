@@ -1,6 +1,7 @@
 #![tactic(auto)]
-// The parser of `inline.rs` over lent rooms: one token, the tokens of a line, and the end. At a brace a line stops: whoever has the lines asks whether
-// an attribute block stands there, and if not the line goes on behind it.
+// The parser of `inline.rs` over lent rooms: one token, the tokens of a line, and the end. At a
+// brace a line stops: whoever has the lines asks whether an attribute block stands there, and if
+// not the line goes on behind it.
 ghost use Rattle.std.specs.Prelude.{◌≡◌, ◌^◌, ◌≤◌, ◌<◌, length, false};
 ghost use Rattle.lex.specs.Lexer.{fresh_of};
 ghost use Rattle.attr.specs.Attributes.{fed};
@@ -13,10 +14,10 @@ ghost use Rattle.inline.specs.Asks.{Before, Lined, Amid, BraceAt, ending, over_o
 
 use attr::Validator;
 use lex::{Cursor, Kind};
-use reading::{Place, kind};
+use reading::{Line, Place, kind};
 use rooms::{Parser, Span, View};
 
-// The next token of the line, if there is one.
+// The next token of the line, if there is one. Each arm has parameters of its own.
 fn parse_event(p: &mut Parser, text: &[u8], v: &View, reading: u32)
     requires { Before (viewed v.now) p.old }
     ensures { Stepped p.old p.new (turning p.old (step (unasked text.now reading (length p.old.labels.now)) (viewed v.now))) }
@@ -45,13 +46,11 @@ fn parse_event(p: &mut Parser, text: &[u8], v: &View, reading: u32)
 fn over(p: &Parser, n: usize) -> bool
     ensures { result ≡ over_of n p.now.at.cursor.pos p.now.at.refused }
 {
-    match p.at.refused {
-        Some(_) => true,
-        None => n <= p.at.cursor.pos,
-    }
+    p.at.refused.is_some() || n <= p.at.cursor.pos
 }
 
-// The tokens of a line, from the cursor on, up to a brace: each takes a byte at least.
+// The tokens of a line, from the cursor on, up to a brace: each takes a byte at least, and the
+// definition is of so many steps.
 fn read_line(p: &mut Parser, text: &[u8], v: &View, reading: u32)
     requires { Lined text.now (viewed v.now) reading p.old }
     ensures { Stepped p.old p.new (turning p.old (steps (length v.now.bytes.now) (unasked text.now reading (length p.old.labels.now)) (viewed v.now))) }
@@ -66,16 +65,15 @@ fn read_line(p: &mut Parser, text: &[u8], v: &View, reading: u32)
 }
 
 // A line of the text, from its start to before its end.
-fn view_of(text: &[u8], start: usize, end: usize) -> View<'_>
-    requires ordered { start ≤ end }
-    requires within { end ≤ length text.now }
-    ensures { viewed result ≡ view_of text.now (record { start = start; end = end }) }
+fn view_of(text: &[u8], l: Line) -> View<'_>
+    requires ordered { l.start ≤ l.end }
+    requires within { l.end ≤ length text.now }
+    ensures { viewed result ≡ view_of text.now l }
 {
-    let before = if start == 0 { 0 } else { text[start - 1] };
     View {
-        bytes: &text[start..end],
-        base: start,
-        before,
+        bytes: &text[l.start..l.end],
+        base: l.start,
+        before: if l.start == 0 { 0 } else { text[l.start - 1] },
     }
 }
 
@@ -87,28 +85,29 @@ pub fn begin_line(p: &mut Parser, reading: u32)
 }
 
 // The tokens of a line of the text, from the cursor on, up to a brace.
-pub fn feed_line(p: &mut Parser, text: &[u8], start: usize, end: usize, reading: u32)
-    requires { Amid text.now (record { start = start; end = end }) reading (turn p.old) p.old.queue.now p.old.openers.now p.old.labels.now }
-    ensures { Stepped p.old p.new (turning p.old (let v = view_of text.now (record { start = start; end = end }) in steps (length v.bytes) (unasked text.now reading (length p.old.labels.now)) v)) }
+pub fn feed_line(p: &mut Parser, text: &[u8], l: Line, reading: u32)
+    requires { Amid text.now l reading (turn p.old) p.old.queue.now p.old.openers.now p.old.labels.now }
+    ensures { Stepped p.old p.new (turning p.old (let v = view_of text.now l in steps (length v.bytes) (unasked text.now reading (length p.old.labels.now)) v)) }
 {
-    read_line(p, text, &view_of(text, start, end), reading);
+    read_line(p, text, &view_of(text, l), reading);
 }
 
 // Behind a brace of the line, at which no attribute block stands: it is Str.
-pub fn pass_brace(p: &mut Parser, text: &[u8], start: usize, end: usize, at: Place)
-    requires { BraceAt text.now (record { start = start; end = end }) at p.old }
-    ensures { Queued p.old p.new (turning p.old (resumed (view_of text.now (record { start = start; end = end })) at.0)) }
+pub fn pass_brace(p: &mut Parser, text: &[u8], l: Line, at: Place)
+    requires { BraceAt text.now l at p.old }
+    ensures { Queued p.old p.new (turning p.old (resumed (view_of text.now l) at.0)) }
 {
-    let v = view_of(text, start, end);
+    let v = view_of(text, l);
     let brace = Span {
-        from: at.0 as usize - start,
+        from: at.0 as usize - l.start,
         to: p.at.cursor.pos,
     };
     p.at.refused = None;
     atoms::put(p, &v, kind::STR, brace);
 }
 
-// A validator is fed a part of the text.
+// A validator is fed a part of the text: a line, or what is behind a brace of one, which is no
+// line.
 pub fn validate(text: &[u8], start: usize, end: usize, v: Validator) -> Validator
     requires start_le_end { start ≤ end }
     requires end_in_bounds { end ≤ length text.now }
@@ -133,13 +132,7 @@ pub fn fresh<'q, 'o, 'l>(
     ensures openers_held { result.openers.now ≡ openers.old }
     ensures labels_held { result.labels.now ≡ labels.old }
 {
-    Parser::new(
-        Cursor::new(0, false),
-        atoms::no_str(),
-        queue,
-        openers,
-        labels,
-    )
+    Parser::new(Cursor::new(0, false), None, queue, openers, labels)
 }
 
 // The end: a verbatim that is still open gets its exit.

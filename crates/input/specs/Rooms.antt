@@ -1,5 +1,5 @@
 -- The rooms in which a program reads a sheet.
-use Rattle.std.specs.Prelude.{ℕ, replicate}
+use Rattle.std.specs.Prelude.{replicate}
 use Rattle.reading.specs.Questions.{Rooms}
 use Rattle.input.specs.declared.SheetRooms.{SheetRooms}
 

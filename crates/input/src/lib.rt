@@ -10,7 +10,7 @@ use reading::{EVENT_NUMBERS, Line, OPENER_NUMBERS, QUEUE_NUMBERS};
 use std::io;
 use std::io::Read;
 
-// A program's input in bytes.
+// A program's input in bytes: what is called with a sheet's text asks that it be no longer.
 pub const BYTES: usize = 1000;
 
 // The rooms in which a program reads a sheet of so many bytes.
@@ -44,11 +44,13 @@ impl SheetRooms {
     }
 }
 
-// The lines of a text, each with its newline, from the front of a room.
+// The lines of a text, each with its newline, from the front of a room. By the places of its bytes,
+// since a line is a start and an end, which no piece of a text has.
 #[tactic(auto, using(crate::proofs::Splitting::line_steps), unfolding(crate::specs::Lines::text_lines))]
 pub fn split_lines<'a>(text: &[u8], room: &'a mut [Line]) -> &'a [Line]
     requires { length text.now ≤ length room.old }
-    ensures { result.now ≡ text_lines text.now }
+    ensures lines { result.now ≡ text_lines text.now }
+    ensures few { length result.now ≤ length room.old }
 {
     let mut n = 0;
     let mut from = 0;
@@ -73,7 +75,8 @@ pub fn split_lines<'a>(text: &[u8], room: &'a mut [Line]) -> &'a [Line]
     }
 }
 
-// Bytes from a reader, until the room is full or nothing is left, and how many there are.
+// Bytes from a reader, until the room is full or nothing is left, and how many there are. Each turn
+// goes on by what the reader gave.
 pub fn read_full<R: Read>(from: &mut R, room: &mut [u8]) -> io::Result<usize>
     ensures bound { IfOk result (λ n. n ≤ length room.new) }
     ensures bytes { IfOk result (λ n. Consumes (R.remaining from.old) (R.remaining from.new)

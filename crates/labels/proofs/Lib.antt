@@ -1,5 +1,2 @@
--- The mathematics of building a label: what is written and what is left, by bytes, events and lines; and its home.
-pub mod Appending
-pub mod Parts
-pub mod Joining
+pub mod Loops
 pub mod Homes

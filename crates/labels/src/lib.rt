@@ -1,15 +1,18 @@
 #![tactic(auto)]
 // Labels of links: a part of the text, or bytes built in a room that the caller lends.
-ghost use Rattle.std.specs.Prelude.{◌≡◌, [], ◌∷◌, true, false, suc, ◌+◌, ◌-◌, ◌*◌, ◌^◌, ◌≤◌, ◌<◌, length, take, drop};
+ghost use Rattle.std.specs.Prelude.{◌≡◌, [], ◌∷◌, suc, ◌+◌, ◌-◌, ◌*◌, ◌^◌, ◌≤◌, ◌<◌, length, take, drop, true, false, IfSome};
+ghost use Rattle.output.specs.Written.{Adds, Wrote};
 ghost use Rattle.reading.specs.Events.{queue_numbers};
-ghost use Rattle.reading.specs.Labels.{part as part_of, word as word_of, words as words_of, stretches, pieces, separator, label_of, label_home};
+ghost use Rattle.reading.specs.Labels.{word as word_of, words as words_of, stretches, pieces, separator, label_of, label_home};
 ghost use Rattle.rooms.specs.Records.{event_at, events};
-ghost use Rattle.labels.specs.Building.{LabelStands, WroteAll, Wrote, WroteJoint, gap as gap_of, stretch as stretch_of, break_of, reached as reached_of, in_text, unbuilt as unbuilt_of, in_room};
+ghost use Rattle.labels.specs.Building.{LabelStands, given, behind, stretch as stretch_of, in_text, unbuilt as unbuilt_of, in_room};
 
-use reading::{Event, Home, IN_LABELS, IN_TEXT, Link, NO_HOME, Place, kind};
+use output::Output;
+use reading::{Event, Home, IN_LABELS, IN_TEXT, Link, NOWHERE, Place, kind};
 
-// What a link's label is made from: its destination's opener and its text's `[` as places in the queue, whether the destination is inline,
-// the start of the current line, where the destination ends, and the link's number.
+// What a link's label is made from: its destination's opener and its text's `[` as places in the
+// queue, whether the destination is inline, the start of the current line, where the destination
+// ends, and the link's number.
 #[derive(Clone, Copy)]
 pub struct Destination {
     pub event: usize,
@@ -20,7 +23,8 @@ pub struct Destination {
     pub link: Link,
 }
 
-// A label's home, and the label room behind it: bytes used, and whether all labels fitted.
+// A label's home, and the label room behind it: bytes used, and whether all labels fitted. A home
+// in the text has meaning where not all fitted, and so have the bytes of those that did.
 #[derive(Clone, Copy)]
 pub struct LabelHome {
     pub home: Home,
@@ -28,254 +32,114 @@ pub struct LabelHome {
     pub fits: bool,
 }
 
-// A label as it is built: bytes used of the room, and whether all of it fitted so far.
-#[derive(Clone, Copy)]
-struct Built {
-    used: usize,
-    fits: bool,
-}
-
-// The same of a label of several lines: a piece has begun, and a newline stood behind the last one.
+// A label of several lines as it is built: whether it is of an inline link, a piece has begun, and
+// a newline stood behind the last one, as the definition of the pieces has them.
 #[derive(Clone, Copy)]
 struct Joint {
-    used: usize,
-    fits: bool,
+    inline: bool,
     begun: bool,
     apart: bool,
 }
 
-// The bytes of the text from a place to another.
-fn part(text: &[u8], from: usize, to: usize) -> &[u8]
-    ensures { result.now ≡ part_of text.now from to }
-{
-    if to <= from {
-        return &text[0..0];
-    }
-    if text.len() <= from {
-        return &text[0..0];
-    }
-    if text.len() <= to {
-        return &text[from..];
-    }
-    &text[from..to]
-}
-
-// One byte.
-fn put(labels: &mut [u8], used: usize, b: u8) -> Built
-    requires { used ≤ length labels.old }
-    ensures { Wrote labels.old used (b ∷ []) result labels.new }
-{
-    if used < labels.len() {
-        labels[used] = b;
-        return Built {
-            used: used + 1,
-            fits: true,
-        };
-    }
-    Built {
-        used: used,
-        fits: false,
-    }
-}
-
-// Some bytes.
-fn copy(s: &[u8], labels: &mut [u8], used: usize) -> Built
-    requires { used ≤ length labels.old }
-    ensures { Wrote labels.old used s.now result labels.new }
-{
-    let mut built = Built {
-        used: used,
-        fits: true,
-    };
-    let mut i = 0;
-    while i < s.len() {
-        built = put(labels, built.used, s[i]);
-        if !built.fits {
-            return built;
-        }
-        i += 1;
-    }
-    built
-}
-
 // What an event of the link's text gives.
-fn word(text: &[u8], e: Event, labels: &mut [u8], used: usize) -> Built
-    requires { used ≤ length labels.old }
-    ensures { Wrote labels.old used (word_of text.now e) result labels.new }
+#[tactic(auto, unfolding(reading::specs::Labels::word))]
+fn word(out: &mut Output, text: &[u8], e: Event) -> Option<()>
+    ensures { Adds out.old (word_of text.now e) result out.new }
 {
     if (kind::ENTER <= e.kind) | (e.kind == kind::ESCAPE) {
-        return Built {
-            used: used,
-            fits: true,
-        };
+        return Some(());
     }
     if (e.kind == kind::SOFTBREAK) | (e.kind == kind::HARDBREAK) {
-        return put(labels, used, b' ');
+        return out.put_byte(b' ');
     }
-    let start = e.start;
-    let end = e.end;
-    copy(
-        part(text, rooms::wide(start.0), rooms::wide(end.0)),
-        labels,
-        used,
-    )
+    out.put(e.under(text))
 }
 
-// The events of the link's text, of the first n those from a place on.
-fn words(text: &[u8], queue: &[u32], from: usize, n: usize, labels: &mut [u8], used: usize) -> Built
-    requires queue_numbers_in_bounds { n * queue_numbers ≤ length queue.now }
-    requires used_in_bounds { used ≤ length labels.old }
-    ensures { WroteAll labels.old used (words_of text.now (drop from (events n queue.now))) result labels.new }
+// A label from the front of a room, of the events of the link's text: how many bytes it has.
+fn words(text: &[u8], queue: &[u32], d: Destination, room: &mut [u8]) -> Option<usize>
+    requires queue_numbers_in_bounds { d.event * queue_numbers ≤ length queue.now }
+    requires span_bound { d.span + 2 ≤ d.event }
+    ensures { Wrote room.old 0 (words_of text.now (drop (suc d.span) (events (d.event - 1) queue.now))) result room.new }
 {
-    let mut built = Built {
-        used: used,
-        fits: true,
-    };
-    let mut i = from;
-    while i < n {
-        let e = rooms::event_at(queue, i);
-        built = word(text, e, labels, built.used);
-        if !built.fits {
-            return built;
-        }
-        i += 1;
+    let mut out = Output::new(room);
+    for i in d.span + 1..d.event - 1 {
+        word(&mut out, text, rooms::event_at(queue, i))?;
     }
-    built
+    Some(out.count())
 }
 
-// What stands between two pieces, where a newline was.
-fn gap(labels: &mut [u8], used: usize, inline: bool, apart: bool) -> Built
-    requires { used ≤ length labels.old }
-    ensures { Wrote labels.old used (gap_of inline apart) result labels.new }
-{
-    if apart {
-        if !inline {
-            return put(labels, used, b' ');
-        }
-    }
-    Built {
-        used: used,
-        fits: true,
-    }
-}
-
-// One byte of a label of several lines.
-fn byte(b: u8, labels: &mut [u8], j: Joint, inline: bool) -> Joint
-    requires used_in_bounds { j.used ≤ length labels.old }
-    requires fits_value { j.fits ≡ true }
-    ensures { WroteJoint inline labels.old j (b ∷ []) result labels.new }
+// One byte of a label of several lines. A newline gives nothing. Before another byte a space stands
+// where a newline was, but for an inline link.
+#[tactic(auto, unfolding(reading::specs::Labels::pieces, crate::specs::Building::behind))]
+fn byte(out: &mut Output, j: &mut Joint, b: u8) -> Option<()>
+    ensures bytes { Adds out.old (given j.old (b ∷ [])) result out.new }
+    ensures joint { IfSome result (λ _. j.new ≡ behind j.old (b ∷ [])) }
 {
     if b == b'\n' {
-        return newline(j);
+        j.apart = j.begun;
+        return Some(());
     }
-    let g = gap(labels, j.used, inline, j.apart);
-    if !g.fits {
-        return Joint {
-            used: g.used,
-            fits: false,
-            begun: j.begun,
-            apart: j.apart,
-        };
+    if j.apart & !j.inline {
+        out.put_byte(b' ')?;
     }
-    let r = put(labels, g.used, b);
-    Joint {
-        used: r.used,
-        fits: r.fits,
-        begun: true,
-        apart: false,
-    }
-}
-
-// A newline gives nothing; it stands behind a piece, if one has begun.
-fn newline(j: Joint) -> Joint
-    ensures { result ≡ break_of j }
-{
-    Joint {
-        used: j.used,
-        fits: j.fits,
-        begun: j.begun,
-        apart: j.begun,
-    }
+    out.put_byte(b)?;
+    j.begun = true;
+    j.apart = false;
+    Some(())
 }
 
 // Some bytes of it.
-fn bytes(s: &[u8], labels: &mut [u8], entry: Joint, inline: bool) -> Joint
-    requires used_in_bounds { entry.used ≤ length labels.old }
-    requires fits_value { entry.fits ≡ true }
-    ensures { WroteJoint inline labels.old entry s.now result labels.new }
+fn bytes(out: &mut Output, j: &mut Joint, s: &[u8]) -> Option<()>
+    ensures bytes { Adds out.old (given j.old s.now) result out.new }
+    ensures joint { IfSome result (λ _. j.new ≡ behind j.old s.now) }
 {
-    let mut j = entry;
-    let mut i = 0;
-    while i < s.len() {
-        j = byte(s[i], labels, j, inline);
-        if !j.fits {
-            return j;
-        }
-        i += 1;
+    for b in s {
+        byte(out, j, *b)?;
     }
-    j
+    Some(())
 }
 
-// What an event behind the destination's opener gives; the span before it ends at `at`.
-fn stretch(text: &[u8], e: Event, at: u32, labels: &mut [u8], j: Joint, inline: bool) -> Joint
-    requires used_in_bounds { j.used ≤ length labels.old }
-    requires fits_value { j.fits ≡ true }
-    ensures { WroteJoint inline labels.old j (stretch_of text.now at e) result labels.new }
+// What an event behind the destination's opener gives; the span before it ends at `at`. Where the
+// two do not touch, it begins as behind a newline.
+#[tactic(auto, unfolding(reading::specs::Labels::pieces, crate::specs::Building::behind, crate::specs::Building::stretch))]
+fn stretch(out: &mut Output, j: &mut Joint, text: &[u8], e: Event, at: u32) -> Option<()>
+    ensures bytes { Adds out.old (given j.old (stretch_of text.now at e)) result out.new }
+    ensures joint { IfSome result (λ _. j.new ≡ behind j.old (stretch_of text.now at e)) }
 {
-    let start = e.start;
-    let end = e.end;
-    let s = part(text, rooms::wide(start.0), rooms::wide(end.0));
-    bytes(s, labels, reached(j, at, start.0), inline)
-}
-
-// A span that does not touch the one before it begins as behind a newline.
-fn reached(j: Joint, at: u32, start: u32) -> Joint
-    ensures { result ≡ reached_of at start j }
-{
-    if at == start {
-        return j;
+    if at != e.start.0 {
+        j.apart = j.begun;
     }
-    newline(j)
+    bytes(out, j, e.under(text))
 }
 
-// The events behind the destination's opener, of the first n those from a place on; the span before them ends at `end`.
+// A label from the front of a room, of the events of a queue of n behind the destination's opener,
+// which ends at `end`: how many bytes it has.
 fn lines(
     text: &[u8],
     queue: &[u32],
-    from: usize,
     n: usize,
+    d: Destination,
     end: u32,
-    labels: &mut [u8],
-    used: usize,
-    inline: bool,
-) -> Built
+    room: &mut [u8],
+) -> Option<usize>
     requires queue_numbers_in_bounds { n * queue_numbers ≤ length queue.now }
-    requires used_in_bounds { used ≤ length labels.old }
-    ensures { WroteAll labels.old used (pieces (separator inline) false false
-        (stretches text.now end (drop from (events n queue.now)))) result labels.new }
+    requires event_lt_n { d.event < n }
+    ensures { Wrote room.old 0 (pieces (separator d.inline) false false
+        (stretches text.now end (drop (suc d.event) (events n queue.now)))) result room.new }
 {
+    let mut out = Output::new(room);
     let mut j = Joint {
-        used: used,
-        fits: true,
+        inline: d.inline,
         begun: false,
         apart: false,
     };
     let mut at = end;
-    let mut i = from;
-    while i < n {
+    for i in d.event + 1..n {
         let e = rooms::event_at(queue, i);
-        j = stretch(text, e, at, labels, j, inline);
-        if !j.fits {
-            break;
-        }
-        let stop = e.end;
-        at = stop.0;
-        i += 1;
+        stretch(&mut out, &mut j, text, e, at)?;
+        at = e.end.0;
     }
-    Built {
-        used: j.used,
-        fits: j.fits,
-    }
+    Some(out.count())
 }
 
 // A label that is a part of the text.
@@ -287,10 +151,10 @@ fn home_in_text(from: Place, to: Place, link: Link, used: usize, fits: bool) -> 
             home: IN_TEXT,
             start: from,
             end: to,
-            link: link,
+            link,
         },
         labels: used,
-        fits: fits,
+        fits,
     }
 }
 
@@ -299,39 +163,38 @@ fn unbuilt(link: Link, used: usize) -> LabelHome
     ensures { result ≡ unbuilt_of link used }
 {
     LabelHome {
-        home: Home {
-            home: NO_HOME,
-            start: Place(0),
-            end: Place(0),
-            link: link,
-        },
+        home: Home { link, ..NOWHERE },
         labels: used,
         fits: false,
     }
 }
 
-// A label that was built behind the first bytes of the room. What was built of one that did not fit is not counted.
-fn home_in_room(link: Link, used: usize, built: Built) -> LabelHome
+// A label of so many bytes, built behind the first bytes of the room. What was built of one that
+// did not fit is not counted.
+#[tactic(auto, unfolding(crate::specs::Building::in_room))]
+fn home_in_room(link: Link, used: usize, built: Option<usize>) -> LabelHome
     requires used_bound { used < 2 ^ 32 }
-    requires used_bound_2 { built.used < 2 ^ 32 }
+    requires built_bound { IfSome built (λ n. used + n < 2 ^ 32) }
     ensures { result ≡ in_room link used built }
 {
-    if !built.fits {
+    let Some(n) = built else {
         return unbuilt(link, used);
-    }
+    };
     LabelHome {
         home: Home {
             home: IN_LABELS,
             start: Place(used as u32),
-            end: Place(built.used as u32),
-            link: link,
+            end: Place((used + n) as u32),
+            link,
         },
-        labels: built.used,
+        labels: used + n,
         fits: true,
     }
 }
 
-// The label of a link, of a queue of n events.
+// The label of a link, of a queue of n events: the queue is a lent room and a count (document 01,
+// "What changes shape"), and so is the label room, with whether all labels fitted so far.
+#[tactic(auto, unfolding(reading::specs::Labels::label_of, reading::specs::Labels::label_home))]
 pub fn label_of(
     text: &[u8],
     queue: &[u32],
@@ -351,21 +214,17 @@ pub fn label_of(
         (drop (suc d.span) (take (d.event - 1) (events n queue.now))) (drop (suc d.event) (events n queue.now)))) }
 {
     let e = rooms::event_at(queue, d.event);
-    let start = e.start;
-    let end = e.end;
-    let at = d.at;
-    let link = d.link;
-    let by_text = !d.inline & (end.0 == at.0);
-    if !by_text & (d.base <= rooms::wide(start.0)) {
-        return home_in_text(end, at, link, used, fits);
+    let by_text = !d.inline & (e.end.0 == d.at.0);
+    if !by_text & (d.base <= e.start.0 as usize) {
+        return home_in_text(e.end, d.at, d.link, used, fits);
     }
     if !fits {
-        return unbuilt(link, used);
+        return unbuilt(d.link, used);
     }
     if by_text {
-        let built = words(text, queue, d.span + 1, d.event - 1, labels, used);
-        return home_in_room(link, used, built);
+        let built = words(text, queue, d, &mut labels[used..]);
+        return home_in_room(d.link, used, built);
     }
-    let built = lines(text, queue, d.event + 1, n, end.0, labels, used, d.inline);
-    home_in_room(link, used, built)
+    let built = lines(text, queue, n, d, e.end.0, &mut labels[used..]);
+    home_in_room(d.link, used, built)
 }

@@ -16,7 +16,7 @@ pub use Rattle.lex.specs.Sound.{Sound}
 use Rattle.lex.specs.Lexer.{token, lexed, is_text, pending_of, holding_of, fresh_of, found_by, next_of, peek_of}
 use Rattle.lex.proofs.Bounds.{Sized, lexed-sized, lexed-end}
 use Rattle.lex.proofs.Texts.{texts-within}
-use Rattle.lex.proofs.Walk.{after, taken_in, taken_out, joint, found_none, found-sized, found-other, found-text, next-held, next-free, peek-held, peek-free}
+use Rattle.lex.proofs.Walk.{after, taken_in, taken_out, joint, found_none, found_sized, found-other, found-text, next-held, next-free, peek-held, peek-free}
 
 module _ (src : List ℕ) (c : Cursor) where
   abbrev here : List ℕ
@@ -97,7 +97,7 @@ module _ (src : List ℕ) (c : Cursor) where
       (λ t e h. token-step t _ refl refl h)
       (λ t e h. none-step c refl)
       (λ e h. none-step _ refl)
-      (λ t e. token-step t _ refl refl (found-sized src c t e))
+      (λ t e. token-step t _ refl refl (found_sized src c t e))
       (λ t e. token-step _ _ refl refl (placed _ (joint-sized t e)))
 
   -- a cursor with nothing held, and one that holds what is lexed at its place
@@ -125,7 +125,7 @@ module _ (src : List ℕ) (c : Cursor) where
         (λ t e h. token-sound t _ (s.held t e).some (free-sound _ h refl))
         (λ t e h. absurd (omega (arith, placed _ (s.held t e))))
         (λ e h. none-sound _ (omega (arith, s.place)) (free-sound _ s.place refl))
-        (λ t e. token-sound t _ (lexed-sized _ _ t e).some (free-sound _ (found-sized src c t e) refl))
+        (λ t e. token-sound t _ (lexed-sized _ _ t e).some (free-sound _ (found_sized src c t e) refl))
         (λ t e.
         token-sound _ _ (joint-sized t e).some
         (held-sound _ false (placed _ (joint-sized t e)) (ap (lexed false) (drop-drop (joint src c t e) c.pos src))))

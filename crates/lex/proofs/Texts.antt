@@ -144,10 +144,10 @@ module _ (src : List ℕ) (from : ℕ) where
     pub joined_end : next ≡ None → record { end = end; next = next } ≡ joined_of src from
     joined_end k = ended (texts-end (drop end src) (sym e ∙ k))
 
-    pub joined-other : (t : Token) → next ≡ Some t → is_text t.kind ≡ false → record { end = end; next = next } ≡ joined_of src from
-    joined-other t k n = ended (texts-other (drop end src) t (sym e ∙ k) n)
+    pub joined_other : (t : Token) → next ≡ Some t → is_text t.kind ≡ false → record { end = end; next = next } ≡ joined_of src from
+    joined_other t k n = ended (texts-other (drop end src) t (sym e ∙ k) n)
 
-    pub joined-more : (t : Token) → next ≡ Some t → is_text t.kind ≡ true → Joining (end + t.len)
-    joined-more t k n =
+    pub joined_more : (t : Token) → next ≡ Some t → is_text t.kind ≡ true → Joining (end + t.len)
+    joined_more t k n =
         let more = texts-text (drop end src) t (sym e ∙ k) n in
         rw (← drop-drop t.len end src) (omega (arith, more))

@@ -43,8 +43,8 @@ module _ (src : List ℕ) (c : Cursor) where
   found_none e = rw e
 
   module _ (t : Token) (e : lexed c.escape here ≡ Some t) where
-    pub found-sized : c.pos + t.len ≤ length src
-    found-sized = let z = lexed-sized c.escape here t e in omega (arith, z.some, z.within, length-drop c.pos src)
+    pub found_sized : c.pos + t.len ≤ length src
+    found_sized = let z = lexed-sized c.escape here t e in omega (arith, z.some, z.within, length-drop c.pos src)
 
     pub found-other : is_text t.kind ≡ false → found ≡ record { token = Some t; cursor = after c t.len (pending_of (Some t) c.verbatim) }
     unfolding found_by
@@ -71,9 +71,9 @@ module _ (src : List ℕ) (c : Cursor) where
           ∙ ap (λ (n : ℕ). lexed false (drop n src)) (sym (ap (λ (x : Joined). x.end) k) ∙ end_is)
           ∙ ap (lexed false) (sym (drop-drop joint c.pos src))
 
-      pub found-joined : is_text t.kind ≡ true
+      pub found_joined : is_text t.kind ≡ true
           → record { token = Some (token Text (j.end - c.pos)); cursor = holding_of c j.end j.next } ≡ found
-      found-joined n =
+      found_joined n =
           let long : j.end - c.pos ≡ joint = omega (arith, end_is) in
           (λ i. record { token = Some (token Text (long i)); cursor = holding_of c (end_is i) (next-is i) }) ∙ sym (found-text n)
 

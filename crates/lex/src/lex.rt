@@ -1,4 +1,4 @@
-// The lexer of `lex.rs`, over a line's bytes and a cursor by value. The byte classes are read from the lent table.
+// The lexer of `lex.rs`, over a line's bytes and a cursor by value.
 ghost use Rattle.std.specs.Prelude.{◌≡◌, ◌<◌, length, get_or, drop};
 ghost use Rattle.lex.specs.Lexer.{token as lex_token, ch_of, start_of, begun_by, begun_of, escaped_of, lexed, is_text, is_escape, pending_of, joined_of};
 ghost use Rattle.lex.specs.Lexer.{holding_of, fresh_of, found_by, taken_of, next_of, peek_of};
@@ -93,7 +93,8 @@ pub struct Lexed {
     pub cursor: Cursor,
 }
 
-// What a byte begins.
+// What a byte begins. The definition has the two steps: a table of bytes (`start_of`), and what
+// each begins (`begun`).
 #[derive(Clone, Copy)]
 enum Start {
     Text,
@@ -131,10 +132,9 @@ impl Cursor {
     pub fn peek(self, src: &[u8]) -> Lexed
         ensures { result ≡ peek_of src.now self }
     {
-        let held = self.next;
-        match held {
+        match self.next {
             Some(_) => Lexed {
-                token: held,
+                token: self.next,
                 cursor: self,
             },
             None => {
@@ -152,28 +152,22 @@ impl Cursor {
     pub fn next(self, src: &[u8]) -> Lexed
         ensures { result ≡ next_of src.now self }
     {
-        let held = self.next;
-        match held {
+        match self.next {
             Some(t) => self.take(src, t),
             None => self.next_token(src),
         }
     }
 
-    // The cursor behind the next token, for who has peeked at it.
+    // The cursor behind the next token, for who has peeked at it. It has the match of `next` and no
+    // call of it: `next` is taken in one place, and so laid into the parser's loop
+    // (docs/DECISIONS.md, "The parser").
     #[tactic(auto, unfolding(crate::specs::Lexer::next_by))]
     pub fn skip(self, src: &[u8]) -> Cursor
         ensures { result ≡ (next_of src.now self).cursor }
     {
-        let held = self.next;
-        match held {
-            Some(t) => {
-                let taken = self.take(src, t);
-                taken.cursor
-            }
-            None => {
-                let lexed = self.next_token(src);
-                lexed.cursor
-            }
+        match self.next {
+            Some(t) => self.take(src, t).cursor,
+            None => self.next_token(src).cursor,
         }
     }
 
@@ -182,61 +176,54 @@ impl Cursor {
     fn take(self, src: &[u8], t: Token) -> Lexed
         ensures { result ≡ taken_of src.now self t }
     {
-        let pos = self.pos;
-        let len = t.len;
-        if (src.len() < pos) || (src.len() - pos < len) {
+        if (src.len() < self.pos) || (src.len() - self.pos < t.len) {
             return Lexed {
                 token: None,
                 cursor: self,
             };
         }
-        let cursor = Cursor {
-            pos: pos + len,
-            escape: self.escape,
-            next: None,
-            verbatim: self.verbatim,
-        };
         Lexed {
             token: Some(t),
-            cursor,
+            cursor: Cursor {
+                pos: self.pos + t.len,
+                next: None,
+                ..self
+            },
         }
     }
 
     // A lexed token. Text is joined, and the token behind it is held.
+    #[tactic(auto, using(crate::proofs::Walk::found_sized, crate::proofs::Walk::found_joined), unfolding(crate::specs::Lexer::found_by, crate::specs::Lexer::joined_of))]
     fn next_token(self, src: &[u8]) -> Lexed
         ensures { result ≡ found_by self (drop self.pos src.now) (lexed self.escape (drop self.pos src.now)) }
     {
-        let pos = self.pos;
-        let current = Cursor::token(src, pos, self.escape);
+        let current = Cursor::token(src, self.pos, self.escape);
         let Some(t) = current else {
             return Lexed {
                 token: current,
-                cursor: self.holding(pos, current),
+                cursor: self.holding(self.pos, current),
             };
         };
-        let end = pos + t.len;
+        let end = self.pos + t.len;
         if !is_text(t) {
-            let cursor = Cursor {
-                pos: end,
-                escape: pending(current, self.verbatim),
-                next: None,
-                verbatim: self.verbatim,
-            };
             return Lexed {
                 token: current,
-                cursor: cursor,
+                cursor: Cursor {
+                    pos: end,
+                    escape: pending(current, self.verbatim),
+                    next: None,
+                    verbatim: self.verbatim,
+                },
             };
         }
         let j = join(src, end);
-        let stop = j.end;
-        let next = j.next;
         let text = Token {
             kind: Kind::Text,
-            len: stop - pos,
+            len: j.end - self.pos,
         };
         Lexed {
             token: Some(text),
-            cursor: self.holding(stop, next),
+            cursor: self.holding(j.end, j.next),
         }
     }
 
@@ -261,10 +248,7 @@ impl Cursor {
             return None;
         }
         let s = &src[pos..];
-        if escape {
-            return Some(escaped(s));
-        }
-        Some(begun(s))
+        Some(if escape { escaped(s) } else { begun(s) })
     }
 }
 
@@ -290,7 +274,9 @@ fn is_escape(t: Token) -> bool
     matches!(t.kind, Kind::Escape)
 }
 
-// The Text tokens from a place on.
+// The Text tokens from a place on. Goes by the token that it finds, and hands back the first that
+// is no Text.
+#[tactic(auto, using(crate::proofs::Texts::joined_end, crate::proofs::Texts::joined_other, crate::proofs::Texts::joined_more))]
 fn join(src: &[u8], from: usize) -> Joined
     ensures { result ≡ joined_of src.now from }
 {
@@ -307,7 +293,7 @@ fn join(src: &[u8], from: usize) -> Joined
     }
 }
 
-// The byte at a place, 0 past the end.
+// The byte at a place, 0 past the end: the source's `peek_byte_n`, of a slice and a place.
 fn peek_byte_n(s: &[u8], n: usize) -> u8
     ensures { result ≡ get_or s.now n 0 }
 {
@@ -346,7 +332,7 @@ fn escaped(s: &[u8]) -> Token
     }
 }
 
-// What a byte begins.
+// The table of bytes: what each begins.
 #[tactic(auto, unfolding(crate::specs::Lexer::start_of, crate::specs::Lexer::starts, crate::specs::Lexer::lookup))]
 fn start_of(b: u8) -> Start
     ensures { result ≡ start_of b }
@@ -379,7 +365,7 @@ fn start_of(b: u8) -> Start
     }
 }
 
-// The token at a byte that is not escaped.
+// The token at a byte that is not escaped: what each start is.
 #[tactic(auto, unfolding(crate::specs::Lexer::begun_by))]
 fn begun(s: &[u8]) -> Token
     requires { 0 < length s.now }
@@ -455,7 +441,7 @@ fn exclaim(s: &[u8]) -> Token
     }
 }
 
-// `{` with a mark behind it is an explicit opening delimiter.
+// `{` with a mark behind it is an explicit opening delimiter: rows of the source's `match`.
 #[tactic(auto, unfolding(crate::specs::Lexer::begun_by, crate::specs::Lexer::braces, crate::specs::Lexer::lookup))]
 fn brace(s: &[u8]) -> Token
     ensures { result ≡ begun_by Start.Brace s.now }

@@ -1,5 +1,5 @@
 #![tactic(auto)]
-// The lexer of `lex.rs` as a struct: the line's bytes and the place in them. The byte classes are read from the lent table.
+// The lexer of `lex.rs` as a struct: the line's bytes and the place in them.
 ghost use Rattle.std.specs.Prelude.{◌≡◌, false};
 ghost use Rattle.lex.specs.Lexer.{fresh_of, next_of, peek_of};
 

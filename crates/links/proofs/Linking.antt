@@ -1,10 +1,10 @@
 -- A link's end: what the label and the two changed events make of the state.
-use Prim.Native.Nat.{ℕ, suc, ◌+◌, ◌-◌, ◌≤◌, ◌<◌}
+use Rattle.std.specs.Prelude.{None}
+use Prim.Native.Nat.{ℕ, suc, ◌+◌, ◌-◌, ◌<◌}
 use mathlib.Core.Path.{◌≡◌, sym, ap, ◌∙◌}
 use mathlib.Core.List.{List}
 use mathlib.Core.Bool.{Bool}
 use native.Mathlib.Numerals.{add-one}
-use Rattle.std.specs.Borrow.{MutBor}
 use lib.ListN.{get_or, length, take, drop}
 use Rattle.reading.specs.declared.Event.{Event}
 use Rattle.reading.specs.declared.Home.{Home}
@@ -12,12 +12,12 @@ use Rattle.reading.specs.declared.Place.{Place}
 use Rattle.reading.specs.declared.Target.{Target}
 use Rattle.reading.specs.declared.Opener.{Opener}
 use Rattle.reading.specs.Events.{place, becomes, becomes_to, enter, exit}
-use Rattle.reading.specs.Machine.{Rules, View, State, Turn, noting, with_link, no_str}
+use Rattle.reading.specs.Machine.{Rules, View, State, Turn}
 use Rattle.reading.specs.Labels.{Labelled, label_of, label_home}
 use Rattle.reading.specs.Verbatim.{nothing}
 use Rattle.reading.specs.Containers.{closes_link}
 use Rattle.rooms.specs.declared.Parser.{Parser}
-use Rattle.rooms.specs.declared.Span.{Span}
+use Rattle.rooms.specs.declared.span.Span.{Span}
 use Rattle.rooms.specs.Records.{event_at, events}
 use Rattle.rooms.specs.Standing.{here}
 use Rattle.rooms.specs.Steps.{state, staying, amending, cutting, Queued}
@@ -44,7 +44,7 @@ module _ (rules : Rules) (text : List ℕ) (v : View) (h : Span) (t : Target) (x
         queue = s.queue;
         openers = s.openers;
         inside = s.inside;
-        last = no_str;
+        last = None;
         labels = bs;
         fits = fits;
         links = record { 0 = p.at.links.0 + 1 };

@@ -11,9 +11,9 @@ use labels::Destination;
 use reading::{Link, Opener, Target, kind};
 use rooms::{Parser, Span, View};
 
-// A link: its `[` becomes the enter; its `]` the exit, whose span goes to behind the destination; the destination's events go.
+// A link: its `[` becomes the enter; its `]` the exit, whose span goes to behind the destination;
+// the destination's events go.
 pub fn closes_link(p: &mut Parser, text: &[u8], v: &View, h: Span, t: Target, o: Opener)
-    requires from_le_to { h.from ≤ h.to }
     requires to_bound { v.now.base + h.to ≤ largest }
     requires container_lt_enter_from { t.container < enter_from }
     requires span_bound { o.span + 2 ≤ o.event }
@@ -31,6 +31,7 @@ pub fn closes_link(p: &mut Parser, text: &[u8], v: &View, h: Span, t: Target, o:
         at: v.place(h.from),
         link: at.links,
     };
+    // Lent through names of their own: the proof speaks of what each room holds behind the call.
     let queue = &mut *p.queue;
     let labels = &mut *p.labels;
     let label = labels::label_of(text, queue, at.events, d, labels, at.labels, at.fits);
@@ -42,7 +43,7 @@ pub fn closes_link(p: &mut Parser, text: &[u8], v: &View, h: Span, t: Target, o:
         v.place(h.to),
     );
     p.cut(o.event);
-    p.at.last = atoms::no_str();
+    p.at.last = None;
     p.at.labels = label.labels;
     p.at.fits = label.fits;
     p.at.links = Link(at.links.0 + 1);

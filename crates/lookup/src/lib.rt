@@ -24,7 +24,8 @@ impl From<Source> for u32 {
     }
 }
 
-// Where a range lies, in a text and a label room of so many bytes; none for an impossible home or range.
+// Where a range lies, in a text and a label room of so many bytes; none for an impossible home or
+// range.
 pub fn source_of(text: usize, labels: usize, home: u32, start: usize, end: usize) -> Option<Source>
     ensures { result ≡ source_in text labels home start end }
 {
@@ -36,7 +37,9 @@ pub fn source_of(text: usize, labels: usize, home: u32, start: usize, end: usize
     ((start <= end) & (end <= n)).then_some(source)
 }
 
-// The bytes of an event's home: a part of the text or of the label room. An impossible home or range gives an empty part of the text.
+// The bytes of an event's home: a part of the text or of the label room. An impossible home or
+// range gives an empty part of the text. It takes home, start and end as the record of an event has
+// them.
 pub fn label<'a>(text: &'a [u8], labels: &'a [u8], home: u32, start: Place, end: Place) -> &'a [u8]
     ensures result_value { result.now ≡ label_of text.now labels.now home start.0 end.0 }
     ensures ref_ptr_value { result.ref_ptr ≡ stands_in (source_in (length text.now) (length labels.now) home start.0 end.0) text.entry.ref_ptr

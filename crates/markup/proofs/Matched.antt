@@ -28,10 +28,6 @@ unfoldable open_in : List Tag → List Tag
 open_in [] = []
 open_in (t ∷ ts) = unless_raw (depth ts) (if_any (find t.k opens) (plain t.k)) ++ open_in ts
 
-raw-is : (k : ℕ) → k ≡ raw_format → raw_bit k ≡ 1
-unfolding raw_bit
-raw-is k e = grind arith
-
 raw-not : (k : ℕ) → (k ≡ raw_format → ⊥) → raw_bit k ≡ 0
 unfolding raw_bit
 raw-not k n = grind arith

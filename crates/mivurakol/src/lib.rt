@@ -39,7 +39,8 @@ pub extern "C" fn mivurakol_read(
     records::read(text, lines, reading, events, queue, openers, labels)
 }
 
-// `lookup::label`, as a place and a length. An impossible home or range gives an empty part of the text.
+// `lookup::label`, as a place and a length. An impossible home or range gives an empty part of the
+// text.
 #[unsafe(no_mangle)]
 pub extern "C" fn mivurakol_label(
     text: &[u8],

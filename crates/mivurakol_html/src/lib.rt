@@ -1,5 +1,6 @@
 #![tactic(auto)]
-// The fragment under its C name: a static library of its own, so that the reader's is as it was and the compiler lays each reader into one place.
+// The fragment under its C name: a static library of its own, so that the compiler lays the reader
+// of each library into its one caller (docs/DECISIONS.md, "The fragment").
 ghost use Rattle.std.specs.Prelude.{◌≡◌, ◌+◌, ◌/◌, ◌≤◌, length};
 ghost use Rattle.reading.specs.Events.{event_numbers};
 ghost use Rattle.reading.specs.Questions.{total};

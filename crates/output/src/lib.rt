@@ -2,7 +2,7 @@
 // Bytes written behind one another from the front of a lent room, as long as it holds them.
 ghost use Rattle.std.specs.Prelude.{◌≡◌, ℕ, ◌≤◌, ◌<◌, [], ◌∷◌, true, false, length, take, slice_index, Some};
 
-// The refusal of an output room that is too short.
+// The refusal of an output room that is too short, in a number for C.
 pub const OUTPUT_ROOM: u32 = 11;
 
 // A lent room, of which the first so many bytes are written.

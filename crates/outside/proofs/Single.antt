@@ -1,9 +1,8 @@
 -- A token that closes nothing: what it is alone, or a span's opener.
-use Rattle.std.specs.Prelude.{Some}
+use Rattle.std.specs.Prelude.{None, Option, Some}
 use Prim.Native.Nat.{ℕ, ◌+◌, ◌≤◌, ◌<◌}
-use mathlib.Core.Path.{◌≡◌, refl, ap, ◌∙◌}
+use mathlib.Core.Path.{◌≡◌, sym, ap, ◌∙◌, subst}
 use mathlib.Core.List.{List}
-use mathlib.Core.Bool.{Bool, true, false}
 use mathlib.Core.Logic.{inl, inr}
 use native.Mathlib.Omega.{arith}
 use borrow.Author.Tests.{eqb-true}
@@ -17,7 +16,9 @@ use Rattle.lex.specs.declared.lex.Kind.{Kind}
 use Rattle.lex.specs.declared.lex.Kind.TheVariants as kinds
 use Rattle.reading.specs.declared.Role.TheVariants as roles
 use Rattle.reading.specs.declared.Sort.TheVariants as sort
+use Rattle.reading.specs.declared.Last.{Last}
 use Rattle.reading.specs.Events.{str}
+use Rattle.reading.proofs.Choose.{choose}
 use Rattle.reading.specs.Machine.{View, Sheet, put}
 use Rattle.reading.specs.Tokens.{plain, bracket, closed_by, both_ways, role_of}
 use Rattle.reading.specs.Closers.{number}
@@ -26,13 +27,13 @@ use Rattle.reading.specs.Verbatim.{taken}
 use Rattle.reading.proofs.Ends.{seek-none}
 use Rattle.reading.proofs.Places.{Taken, peeked-taken, peek-sound, peek-place}
 use Rattle.rooms.specs.declared.Parser.{Parser}
-use Rattle.rooms.specs.declared.Span.{Span}
+use Rattle.rooms.specs.declared.span.Span.{Span}
 use Rattle.rooms.specs.Standing.{here}
 use Rattle.rooms.specs.Steps.{state, staying, Changed, Queued}
 use Rattle.rooms.proofs.Changing.{changed-as, queued-as}
 use Rattle.verbatim.specs.Opened.{Dollars}
 use Rattle.containers.specs.Ready.{Ready}
-use Rattle.outside.specs.Outside.{Ended}
+use Rattle.outside.specs.Outside.{Ended, EndedBy}
 
 pub queued_alone : (x : Sheet) (v : View) (h : Span) (p r : Parser) → Queued p r (staying p (put v str h.from h.to))
     → Queued p r (container x v (here h p.at) (plain str))
@@ -51,30 +52,38 @@ scan-within line to n h t = omega (arith, h, length-drop to line)
 -- the dollars that a run takes are those of the newest event
 pub dollars-ended : (p : Parser) (at : ℕ) → Ended p → Dollars (taken p.at.last at) p.at.events p.queue.now × (taken p.at.last at ≤ at)
 unfolding taken
-dollars-ended p at e = go (eqb p.at.last.end.0 at) refl e
+dollars-ended p at e = go p.at.last e
   where
-    go : (b : Bool) → eqb p.at.last.end.0 at ≡ b → Ended p
-        → Dollars (elim b [ true ↦ p.at.last.dollars | false ↦ 0 ]) p.at.events p.queue.now × (elim b [ true ↦ p.at.last.dollars | false ↦ 0 ] ≤ at)
-    go false is e = (record { some = λ z. absurd (omega arith); within = λ z. absurd (omega arith) }, omega arith)
-    go true is (inl z) = (record { some = λ y. absurd (omega (arith, z)); within = λ y. absurd (omega (arith, z)) }, omega (arith, z))
-    go true is (inr w) =
-        (record { some = λ y. w.some; within = λ y. w.within }, omega (arith, w.ends, eqb-true p.at.last.end.0 at is))
+    At : ℕ → Type 0
+    At d = Dollars d p.at.events p.queue.now × (d ≤ at)
+
+    none : At 0
+    none = (record { some = λ z. absurd (omega arith); within = λ z. absurd (omega arith) }, omega arith)
+
+    go : (last : Option Last) → EndedBy last p → At (taken last at)
+    go None e = none
+    go (Some l) (inl z) =
+        choose At (eqb l.end.0 at) _ _ (λ is. subst At (sym z) none) (λ is. none)
+    go (Some l) (inr e) =
+        choose At (eqb l.end.0 at) _ _
+        (λ is. (record { some = λ y. e.some; within = λ y. e.within }, omega (arith, e.ends, eqb-true l.end.0 at is)))
+        (λ is. none)
 
 -- what is asked of the rooms, at another cursor behind a token that begins at the same place
-pub ready-at : (v : View) (h : Span) (p u : Parser) → Ready v h p → (to : ℕ) → h.from < to → to ≤ length v.bytes → u.at.cursor.pos ≡ to → Sound v.bytes u.at.cursor
-    → u.at.events ≡ p.at.events → u.at.openers ≡ p.at.openers → u.queue ≡ p.queue → u.openers ≡ p.openers
-    → Ready v (record { from = h.from; to = to }) u
-ready-at v h p u w to long within place sound e n q o =
+pub ready-at : (v : View) (h b : Span) (p u : Parser) → Ready v h p → b.from ≡ h.from → h.from < b.to → b.to ≤ length v.bytes → u.at.cursor.pos ≡ b.to
+    → Sound v.bytes u.at.cursor → u.at.events ≡ p.at.events → u.at.openers ≡ p.at.openers → u.queue ≡ p.queue → u.openers ≡ p.openers
+    → Ready v b u
+ready-at v h b p u w same long within place sound e n q o =
     record {
-      long = long;
+      long = rw same long;
       within = within;
       small = w.small;
       place = place;
       sound = sound;
-      room = rw (e, q) w.room;
-      few = rw e w.few;
-      shallow = rw n w.shallow;
-      stack = rw (n, o) w.stack;
+      room = rw (same, e, q) w.room;
+      few = rw (same, e) w.few;
+      shallow = rw (same, n) w.shallow;
+      stack = rw (same, n, o) w.stack;
       named = rw (e, n, o) w.named;
     }
 

@@ -1,6 +1,7 @@
 #![tactic(auto)]
-// A token outside verbatim, in the order of the source's `parse_event`: backticks, a brace, the scans ahead, containers, dots and dashes. Only what
-// may end a link touches the label room; all else leaves it, whatever sheet the token is of.
+// A token outside verbatim, in the order of the source's `parse_event`: backticks, a brace, the
+// scans ahead, containers, dots and dashes. Only what may end a link touches the label room; all
+// else leaves it, whatever sheet the token is of.
 ghost use Rattle.std.specs.Prelude.{drop};
 ghost use Rattle.scan.specs.Scans.{footnote_of};
 ghost use Rattle.reading.specs.Machine.{Rules, Sheet};
@@ -35,7 +36,8 @@ fn opens(p: &mut Parser, v: &View, h: Span)
     containers::open_as(p, v, h, Sort::Span);
 }
 
-// `<`: an autolink if the scan accepts.
+// `<`: an autolink if the scan accepts. This and the two below each have their own scan, their own
+// event and their own way without one: one function of them would take all three as closures.
 #[tactic(auto, unfolding(reading::specs::Reading::outside, reading::specs::Reading::angle))]
 fn parse_autolink(p: &mut Parser, v: &View, h: Span)
     requires { TokenReady (viewed v.now) h p.old }
@@ -79,8 +81,7 @@ fn parse_footnote_reference(p: &mut Parser, v: &View, h: Span)
 {
     let ahead = lexer::peek_token(v.bytes, p.at.cursor);
     p.at.cursor = ahead.cursor;
-    let next = ahead.token;
-    let Some(t) = next else {
+    let Some(t) = ahead.token else {
         opens(p, v, h);
         return;
     };
@@ -123,7 +124,7 @@ fn hyphens(p: &mut Parser, v: &View, h: Span)
     atoms::dashes(p, v, h);
 }
 
-// A token outside verbatim.
+// A token outside verbatim. The roles are the definition's, and each arm has parameters of its own.
 #[tactic(auto, unfolding(reading::specs::Reading::outside, reading::specs::Reading::braced))]
 pub fn outside(p: &mut Parser, text: &[u8], v: &View, h: Span, role: Role)
     requires ready { Ready (viewed v.now) h p.old }

@@ -1,5 +1,6 @@
 #![tactic(auto)]
 // `./pack`: the packed list of a sheet of standard input. A sheet has at most 1,000 bytes.
+// Its stored run is of a sheet that is read.
 use std::io;
 
 fn main(rt: HostRuntime) -> io::Result<()> {

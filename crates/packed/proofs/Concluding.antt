@@ -5,7 +5,7 @@ use Rattle.std.proofs.Common.{sym, ap, ◌∙◌, arith}
 use Rattle.std.proofs.lemmas.Bool.Decides.{nat_tests}
 use Rattle.reading.specs.declared.Event.{Event}
 use Rattle.reading.specs.Events.{event_numbers}
-use Rattle.reading.specs.Questions.{zeros, filled, numbers}
+use Rattle.reading.specs.Questions.{filled, numbers}
 use Rattle.outcome.specs.Outcomes.{kept}
 use Rattle.rooms.proofs.Rows.{rows-length}
 use Rattle.listing.specs.Listing.{event_at, listed}
@@ -23,10 +23,6 @@ use Rattle.packed.specs.declared.UnpackError.{UnpackError}
 use Rattle.packed.specs.declared.UnpackError.TheVariants.{Faulty, Short}
 use Rattle.packed.specs.Calls.{Call, call, Restoring, packing_as, packing, restoring, settled, restored_as, restored, told, written, unpacking}
 use Rattle.packed.specs.Calls.{enough_bytes, enough_events}
-
--- none of a room is kept
-kept_none : (a b : List ℕ) → length a ≡ length b → kept 0 a ≡ zeros b
-kept_none a b e = let n : length a - 0 ≡ length b = omega (arith, e) in ap (λ (k : ℕ). replicate k 0) n
 
 -- a list that was written, as the definition has it
 as_written : (bs out out' : List ℕ) → length out' ≡ length out → (f : Flawed) (r : Result ℕ PutError) → r ≡ put_as f (length bs) (length out) → IfOk r (λ n. take n out' ≡ bs)

@@ -53,7 +53,7 @@ impl From<FaultAt> for UnpackError {
 
 impl PackedAnswer {
     // Nothing is written.
-    fn refusal(code: u32, place: usize) -> PackedAnswer
+    pub fn refusal(code: u32, place: usize) -> PackedAnswer
         ensures { result ≡ refusal_of code place }
     {
         PackedAnswer {
@@ -74,6 +74,7 @@ impl PackedAnswer {
     }
 }
 
+// The answers of the two calls, a row for each case.
 impl From<Result<usize, PutError>> for PackedAnswer {
     ghost from_gives = { λ r a. a ≡ written r };
 
@@ -122,7 +123,8 @@ fn events_of(bytes: &[u8], room: &mut [u32]) -> Result<usize, UnpackError>
     Ok(n)
 }
 
-// Unpacks a list, and says which fault it has.
+// Unpacks a list, and says which fault it has. It hands out how many events there are, as the
+// answer has them.
 pub fn restore(bytes: &[u8], events: &mut [u32]) -> Result<usize, UnpackError>
     ensures { restoring result events.new ≡ restored bytes.now events.old }
 {

@@ -21,7 +21,7 @@ pub enum Fault {
     Longer,
     // A number is over the largest.
     TooLarge,
-    // A start or an end is.
+    // A start or an end is over it.
     Beyond,
     UnknownKind,
     // A home over 2, or on a kind without one.
@@ -73,9 +73,10 @@ fn container(k: u32) -> u32
     ensures { result ≡ container_of k }
 {
     if k < kind::EXIT {
-        return k - kind::ENTER;
+        k - kind::ENTER
+    } else {
+        k - kind::EXIT
     }
-    k - kind::EXIT
 }
 
 // A kind that is handed out.

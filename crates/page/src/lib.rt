@@ -16,7 +16,7 @@ use verdict::{FragmentAnswer, LINKED};
 // So much output room always suffices.
 const FRAGMENT_ROOM: usize = 5 * BYTES + 29 * (BYTES + 1);
 
-// A refusal by its number, which says in plain words what it means.
+// A refusal by the number of its answer, as C has it. It says in plain words what it means.
 #[derive(Clone, Copy)]
 struct Refusal(u32);
 
@@ -35,7 +35,8 @@ impl fmt::Display for Refusal {
     }
 }
 
-// What is answered: the fragment from the front of the output room, or why there is none.
+// What is answered: the fragment from the front of the output room, or why there is none. The call
+// answers a number, for the C interface.
 fn write_answer<W: Write, E: Write>(
     to: &mut W,
     errors: &mut E,
@@ -59,7 +60,8 @@ fn write_answer<W: Write, E: Write>(
     }
 }
 
-// The fragment of a sheet, in reading 0, by way of an output room.
+// The fragment of a sheet, in reading 0, by way of an output room. The definition has the two
+// steps: any room (`page_within`), and the program's (`page_text`).
 fn write_page<W: Write, E: Write>(
     to: &mut W,
     errors: &mut E,
@@ -88,6 +90,7 @@ fn write_page<W: Write, E: Write>(
     write_answer(to, errors, answer, out)
 }
 
+// By way of the program's room.
 #[tactic(auto, unfolding(crate::specs::Paged::page_text))]
 fn page<W: Write, E: Write>(to: &mut W, errors: &mut E, text: &[u8]) -> io::Result<()>
     requires { length text.now ≤ 1000 }
@@ -100,7 +103,9 @@ fn page<W: Write, E: Write>(to: &mut W, errors: &mut E, text: &[u8]) -> io::Resu
     write_page(to, errors, text, &mut out)
 }
 
-// At most 1,000 bytes of input are a sheet.
+// At most 1,000 bytes of input are a sheet. `show_input`, `send_input` and `receive_input` are of
+// the same shape: what they share is two arms, and one function of all would take the writing as a
+// closure, and what it writes as a function of its contract.
 pub fn page_input<R: Read, W: Write, E: Write>(
     from: &mut R,
     to: &mut W,

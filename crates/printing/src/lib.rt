@@ -21,7 +21,8 @@ pub fn write_line<W: Write>(to: &mut W, numbers: &[u32]) -> io::Result<()>
     to.write_all(b"\n")
 }
 
-// So much from the front of a room, and never more than there is.
+// So much from the front of a room, and never more than there is: a count is an answer's, which a
+// caller lends beside the room.
 pub fn front<T>(room: &[T], count: usize) -> &[T]
     ensures { result.now ≡ take count room.now }
 {
@@ -39,7 +40,8 @@ pub fn write_events<W: Write>(to: &mut W, events: &[u32]) -> io::Result<()>
     Ok(())
 }
 
-// A refusal of the reader by its number, which says in plain words what it means.
+// A refusal of the reader by the number of its answer, as C has it. It says in plain words what it
+// means.
 #[derive(Clone, Copy)]
 pub struct Refusal(pub u32);
 

@@ -1,5 +1,6 @@
 #![tactic(auto)]
-// The questions asked of a sheet before it is read, 1 to 6: the reading, the limits, the lines in one walk, the rooms.
+// The questions asked of a sheet before it is read, 1 to 6: the reading, the limits, the lines in
+// one walk, the rooms.
 ghost use Rattle.std.specs.Prelude.{◌≡◌, ◌+◌, ◌^◌, ◌≤◌, ◌<◌, length, IfOk};
 ghost use Rattle.reading.specs.Events.{largest};
 ghost use Rattle.questions.specs.Asking.{limit, checked_lines, roomy, asked_of, line_of};
@@ -15,7 +16,7 @@ struct LineWalk {
     early: Option<u32>,
 }
 
-// 3 and 4 of line i, behind others.
+// Questions 3 and 4 of the i-th line, behind the lines before it.
 fn walk_line(w: LineWalk, i: usize, l: Line, text: usize) -> Result<LineWalk, Refusal>
     requires total_bound { w.total + text < 2 ^ 64 }
     requires index_bound { i < 2 ^ 32 }
@@ -31,7 +32,8 @@ fn walk_line(w: LineWalk, i: usize, l: Line, text: usize) -> Result<LineWalk, Re
     })
 }
 
-// 3: has every line start ≤ end ≤ text length? 4: does each line start at or after the end of the one before? Then the bytes of all lines.
+// 3: has every line start ≤ end ≤ text length? 4: does each line start at or after the end of the
+// one before? Then the bytes of all lines.
 fn check_lines<L: Lines>(text: &[u8], lines: L) -> Result<usize, Refusal>
     requires text_len_bound { length text.now ≤ largest }
     requires lines_len_bound { length (L.listed lines) ≤ largest }
@@ -52,7 +54,8 @@ fn check_lines<L: Lines>(text: &[u8], lines: L) -> Result<usize, Refusal>
     }
 }
 
-// 1: is the reading 0 or 1? 2: is the text at most 1,048,576 bytes, and the line list at most 1,048,576 records?
+// 1: is the reading 0 or 1? 2: is the text at most 1,048,576 bytes, and the line list at most
+// 1,048,576 records?
 fn limits(reading: u32, text: usize, lines: usize) -> Result<(), Refusal>
     ensures { result ≡ limit reading text lines }
 {
@@ -79,7 +82,7 @@ fn ask_rooms(n: usize, queue: usize, openers: usize) -> Result<(), Refusal>
     Ok(())
 }
 
-// 1 to 6.
+// Questions 1 to 6, in their order.
 pub fn questions<L: Lines>(
     text: &[u8],
     lines: L,

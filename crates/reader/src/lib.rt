@@ -12,9 +12,11 @@ ghost use Rattle.inline.specs.Lines.{lines_of};
 ghost use Rattle.inline.specs.Asks.{StandsFor};
 ghost use Rattle.drain.specs.Handing.{handed};
 ghost use Rattle.outcome.specs.Outcomes.{rooms_of, outcome_of};
+ghost use Rattle.outcome.specs.Lending.{held, left_by, Lent};
 ghost use Rattle.questions.specs.Asking.{Passed};
 ghost use Rattle.reader.specs.Judging.{asked_last, Parsed};
 
+use outcome::Rooms;
 use reading::{Answer, LABEL_LIMIT, Refusal};
 use rooms::Status;
 use sheets::{Lines, Pairs};
@@ -36,8 +38,9 @@ fn parse_lines<L: Lines>(
     sheets::parse(text, lines, reading, queue, openers, &mut labels[..room])
 }
 
-// 7: does no attribute block stand outside verbatim? 8: does the label room hold all the labels built? 9: does the event room hold all the events?
-// Then these are handed out, so many.
+// 7: does no attribute block stand outside verbatim? 8: does the label room hold all the labels
+// built? 9: does the event room hold all the events? If so, they are handed out, and how many is
+// answered.
 #[tactic(auto, unfolding(drain::specs::Handing::answered))]
 fn hand_out(p: Status, events: &mut [u32], queue: &[u32]) -> Result<usize, Refusal>
     requires { p.events * queue_numbers ≤ length queue.now }
@@ -51,28 +54,26 @@ fn hand_out(p: Status, events: &mut [u32], queue: &[u32]) -> Result<usize, Refus
     }
 }
 
-// 7 to 9, of what was read.
-fn judge(
-    p: Status,
-    events: &mut [u32],
-    queue: &mut [u32],
-    openers: &mut [u32],
-    labels: &mut [u8],
-) -> Answer
-    requires { Parsed p queue.old labels.old }
-    ensures { outcome_of result events.new queue.new openers.new labels.new ≡ judged p.refused p.fits
-        (stands p queue.old openers.old labels.old) (rooms_of events.old queue.old openers.old labels.old) }
+// Questions 7 to 9, of what was read, and what the rooms hold then.
+fn judge(p: Status, rooms: &mut Rooms) -> Answer
+    requires { Parsed p rooms.old.queue.now rooms.old.labels.now }
+    ensures value { left_by result rooms.new ≡ judged p.refused p.fits
+        (stands p rooms.old.queue.now rooms.old.openers.now rooms.old.labels.now) (held rooms.old) }
+    ensures lent { Lent rooms.old rooms.new }
 {
+    let events = &mut *rooms.events;
+    let queue = &mut *rooms.queue;
     match hand_out(p, events, queue) {
-        Ok(count) => outcome::accept(count, p.labels, events, queue, openers, labels),
+        Ok(count) => rooms.accept(count, p.labels),
         Err(r) => {
-            outcome::clear_all(events, queue, openers, labels);
+            rooms.clear();
             r.into()
         }
     }
 }
 
-// Reads a sheet: the lines of a text, each from its start to before its end, into the event room and the label room.
+// Reads a sheet: the lines of a text, each from its start to before its end, into the event room
+// and the label room. An entry has the parameters that document 01 and C give it, room by room.
 pub fn read_lines<L: Lines>(
     text: &[u8],
     lines: L,
@@ -92,7 +93,13 @@ pub fn read_lines<L: Lines>(
         Err(r) => r.into(),
         Ok(()) => {
             let p = parse_lines(text, lines, reading, queue, openers, labels);
-            judge(p, events, queue, openers, labels)
+            let mut rooms = Rooms {
+                events,
+                queue,
+                openers,
+                labels,
+            };
+            judge(p, &mut rooms)
         }
     }
 }

@@ -42,11 +42,12 @@ unfoldable pub Shows : List ℕ → View → Type 0
 Shows text v = (j : ℕ) → j < length v.bytes → get_or v.bytes j 0 ≡ get_or text (v.base + j) 0
 
 -- the dollars that a run takes lie in the Str before it
-pub taken-ends : (l : Last) (at : ℕ) (q : List Event) → LastOk l q → (taken l at ≡ 0) ⊎ Ends (taken l at) at q
+pub taken-ends : (l : Option Last) (at : ℕ) (q : List Event) → LastOk l q → (taken l at ≡ 0) ⊎ Ends (taken l at) at q
 unfolding taken
-taken-ends l at q ok =
+taken-ends None at q ok = inl refl
+taken-ends (Some l) at q ok =
     choose (λ (n : ℕ). (n ≡ 0) ⊎ Ends n at q) (eqb l.end.0 at) _ _
-    (λ e. subst (λ (j : ℕ). (l.dollars ≡ 0) ⊎ Ends l.dollars j q) (eqb-true l.end.0 at e) ok)
+    (λ e. inr (subst (λ (j : ℕ). Ends l.dollars j q) (eqb-true l.end.0 at e) ok))
     (λ e. inl refl)
 
 -- the enter of a run, and its exit
@@ -179,7 +180,7 @@ module _ (Loose : ℕ → Type 0) (text : List ℕ) (w : Verbatim) where
         (inner-exit w q os (length q) nothing a b (omega (arith, low, high)) i))
 
     pub exits-out : ((j : ℕ) → Of (map span_of (cut w q)) j → Loose j) → length os ≤ m → suc n ≤ m
-        → (t : State) → t.queue ≡ kept w q ++ (exit_of (get_or q w.event nothing) a b ∷ []) → t.openers ≡ os → t.last.dollars ≡ 0
+        → (t : State) → t.queue ≡ kept w q ++ (exit_of (get_or q w.event nothing) a b ∷ []) → t.openers ≡ os → t.last ≡ None
         → Out Loose text b m t
     exits-out loose l k t eq eo el =
         record {
@@ -189,7 +190,7 @@ module _ (Loose : ℕ → Type 0) (text : List ℕ) (w : Verbatim) where
           parts = rw (eq, eo) kept-parts;
           few = rw eq (omega (arith, length-append (kept w q) (exit_of (get_or q w.event nothing) a b ∷ []), kept-few w q, few, k));
           opens = rw eo l;
-          last = inl el;
+          last = rw el tt;
         }
 
   -- a token inside

@@ -6,7 +6,6 @@ use Prim.Native.Nat.{ℕ, suc, ◌+◌, ◌-◌, ◌≤◌, ◌<◌}
 use mathlib.Core.Path.{◌≡◌, refl, sym, ap, ◌∙◌, subst}
 use mathlib.Core.List.{List, [], ◌∷◌, ◌++◌, map-append}
 use mathlib.Core.Bool.{Bool, true, false}
-use mathlib.Core.Logic.{inl}
 use native.Mathlib.Omega.{arith}
 use lib.ListN.{length, take, set, length-append, length-map}
 use Rattle.lex.specs.declared.lex.Cursor.{Cursor}
@@ -94,7 +93,7 @@ module _ (Loose : ℕ → Type 0) (text : List ℕ) where
                   k.long,
                 );
             opens = omega (arith, few, g.opens, k.long);
-            last = inl refl;
+            last = tt;
           }
         where
           e : Event
@@ -112,7 +111,7 @@ module _ (Loose : ℕ → Type 0) (text : List ℕ) where
                 (link-close (walks s.queue) os o.span o.event (walk_by (enter c) l.home) (walk_by (exit c) l.home) t w);
             few = omega (arith, take-few o.event (amend last (o.event - 1) q), length-amend last (o.event - 1) q, long, g.few, k.long);
             opens = omega (arith, few, g.opens, k.long);
-            last = inl refl;
+            last = tt;
           }
         where
           last : Event → Event

@@ -4,8 +4,6 @@ use Prim.Native.Nat.{ℕ, zero, suc, ◌+◌, ◌-◌, ◌≤◌, ◌<◌}
 use mathlib.Core.Path.{◌≡◌, refl, ap, ◌∙◌}
 use mathlib.Core.List.{List, [], ◌∷◌}
 use native.Mathlib.Omega.{arith}
-use borrow.Author.Tests.{eqb-true}
-use lib.Dec.{eqb}
 use lib.ListN.{length, get_or, length-append}
 use lib.Seq.{get_or_at}
 use Rattle.reading.specs.declared.Event.{Event}
@@ -13,9 +11,7 @@ use Rattle.reading.specs.declared.Last.{Last}
 use Rattle.reading.specs.declared.Opener.{Opener}
 use Rattle.reading.specs.Events.{home_of, homed, shorter}
 use Rattle.reading.specs.Machine.{amend, amend_last}
-use Rattle.reading.specs.Tokens.{closed_by}
 use Rattle.reading.specs.Containers.{seek}
-use Rattle.reading.proofs.Choose.{choose}
 use Rattle.reading.proofs.Good.{Ends}
 
 -- the last of n + 1 events is the n-th

@@ -4,7 +4,7 @@ use Prim.Native.Nat.{ℕ, zero, suc, ◌+◌, ◌-◌, ◌≤◌}
 use mathlib.Core.Path.{◌≡◌, refl, sym, ◌∙◌, subst}
 use mathlib.Core.List.{List, [], ◌∷◌, ◌++◌}
 use mathlib.Core.Bool.{true, false}
-use mathlib.Core.Logic.{inl, ⊎_elim}
+use mathlib.Core.Logic.{⊎_elim}
 use native.Mathlib.Omega.{arith}
 use lib.ListN.{length, get_or, drop, length-drop}
 use lib.Seq.{length-take-le, get_or-take, get_or-drop}
@@ -210,7 +210,7 @@ module _ (Loose : ℕ → Type 0) (text : List ℕ) (x : Sheet) where
       record {
         few = omega arith;
         opens = omega arith;
-        good = λ e. record { covers = gap-none Loose 0; parts = still-nil; few = omega arith; opens = omega arith; last = inl refl };
+        good = λ e. record { covers = gap-none Loose 0; parts = still-nil; few = omega arith; opens = omega arith; last = tt };
       }
 
   -- at any moment the queue and the openers are bounded

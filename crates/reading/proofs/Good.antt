@@ -5,7 +5,6 @@ use Prim.Native.Nat.{ℕ, suc, ◌+◌, ◌-◌, ◌≤◌, ◌<◌}
 use mathlib.Core.Path.{◌≡◌, refl, sym, subst}
 use mathlib.Core.List.{List, [], ◌∷◌, ◌++◌, map, map-append}
 use mathlib.Core.Bool.{true, false, ◌&&◌, and-eq-true_iff}
-use mathlib.Core.Logic.{◌⊎◌, inl, inr}
 use native.Mathlib.Omega.{arith}
 use borrow.Author.Tests.{eqb-true, ltb-true, lt-ltb}
 use lib.Dec.{eqb, ltb}
@@ -44,15 +43,17 @@ pub record Ends (n at : ℕ) (q : List Event) : Type 0 where
   pub ends : it.end.0 ≡ at
   pub shown : link_exit it.kind ≡ false
 
-abbrev pub LastOk : Last → List Event → Type 0
-LastOk l q = (l.dollars ≡ 0) ⊎ Ends l.dollars l.end.0 q
+-- what is noted is of the last event
+abbrev pub LastOk : Option Last → List Event → Type 0
+LastOk None q = Unit {0}
+LastOk (Some l) q = Ends l.dollars l.end.0 q
 
 pub last-put : (v : View) (kind i j : ℕ) (q : List Event) → i ≤ j → LastOk (last_of v kind i j) (q ++ event kind (v.base + i) (v.base + j) ∷ [])
 unfolding last_of link_exit
 last-put v kind i j q h =
-    choose (λ (l : Last). LastOk l (q ++ event kind (v.base + i) (v.base + j) ∷ [])) (eqb kind str) _ _
+    choose (λ (l : Option Last). LastOk l (q ++ event kind (v.base + i) (v.base + j) ∷ [])) (eqb kind str) _ _
     (λ e.
-    inr record {
+    record {
       front = q;
       it = event kind (v.base + i) (v.base + j);
       parted = refl;
@@ -60,7 +61,7 @@ last-put v kind i j q h =
       ends = refl;
       shown = subst (λ (k : ℕ). link_exit k ≡ false) (sym (eqb-true kind str e)) refl;
     })
-    (λ e. inl refl)
+    (λ e. tt)
 
 -- every byte under some events is blank
 abbrev pub Blank : List ℕ → List Event → Type 0
@@ -91,7 +92,7 @@ module _ (Loose : ℕ → Type 0) (text : List ℕ) where
   Good at n s = GoodBy s.inside at n s
 
   -- events that match by themselves
-  pub out-puts : (es : List Event) (l : Last) (at to n m : ℕ) (s : State) → Out at n s → Covers Loose at es to → Still (walks es)
+  pub out-puts : (es : List Event) (l : Option Last) (at to n m : ℕ) (s : State) → Out at n s → Covers Loose at es to → Still (walks es)
       → length es + n ≤ m → LastOk l (s.queue ++ es) → Out to m (puts es l s)
   out-puts es l at to n m s o c w k h =
       record {

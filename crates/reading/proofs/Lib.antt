@@ -1,6 +1,7 @@
 pub mod Sampled
 pub mod Rows
 pub mod Choose
+pub mod Sorts
 pub mod Removed
 pub mod Spans
 pub mod Matching

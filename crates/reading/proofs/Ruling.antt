@@ -27,7 +27,7 @@ use Rattle.reading.specs.declared.DelimEventKind.{DelimEventKind}
 use Rattle.reading.specs.declared.DelimEventKind.TheVariants as makes
 use Rattle.dash.specs.Dashes.{dashes_of}
 use Rattle.reading.specs.Events.{str, symbol, footnote}
-use Rattle.reading.specs.Machine.{View, Rules, Sheet, State, Turn, Here, puts, no_str, with_openers}
+use Rattle.reading.specs.Machine.{View, Rules, Sheet, State, Turn, Here, puts, with_openers}
 use Rattle.reading.specs.Atoms.{dashes, dots, autolinked, named}
 use Rattle.reading.specs.Tokens.{role_of, is_caret, closing_of, plain, bracket}
 use Rattle.reading.specs.Verbatim.{opens_verbatim, closes, closed_with, all_blank, bytes_of, skips, blank_content, in_verbatim}
@@ -108,7 +108,7 @@ module _ (x y : Sheet) (v : View) (s : State) (P : Turn → Turn → Type 0) (At
     (names : (h : Here) → At h → (kind n : ℕ) → symbol ≤ kind → kind ≤ footnote → P (named kind v h n s) (named kind v h n s))
     (periods : (h : Here) → At h → let a : Turn = record { cursor = h.cursor; state = dots v h.from (h.to - h.from) s } in P a a)
     (hyphens : (h : Here) → At h
-    → let a : Turn = record { cursor = h.cursor; state = puts (dashes (dashes_of (h.to - h.from)) (v.base + h.from)) no_str s } in P a a)
+    → let a : Turn = record { cursor = h.cursor; state = puts (dashes (dashes_of (h.to - h.from)) (v.base + h.from)) None s } in P a a)
     (opens : (h : Here) → At h → P (opens_verbatim v h s) (opens_verbatim v h s)) where
   by-trial : (h : Here) → At h → (m : Marks) → Ok (role.Other m) → (os : List Opener) → seek m.closes s.openers ≡ os
       → P (tried x v h m os s) (tried y v h m os s)
@@ -176,7 +176,7 @@ module _ (x y : Sheet) (v : View) (s : State) (P : Turn → Turn → Type 0) (At
     (names : (h : Here) → At h → (kind n : ℕ) → P (named kind v h n s) (named kind v h n s))
     (periods : (h : Here) → At h → let a : Turn = record { cursor = h.cursor; state = dots v h.from (h.to - h.from) s } in P a a)
     (hyphens : (h : Here) → At h
-    → let a : Turn = record { cursor = h.cursor; state = puts (dashes (dashes_of (h.to - h.from)) (v.base + h.from)) no_str s } in P a a)
+    → let a : Turn = record { cursor = h.cursor; state = puts (dashes (dashes_of (h.to - h.from)) (v.base + h.from)) None s } in P a a)
     (opens : (h : Here) → At h → P (opens_verbatim v h s) (opens_verbatim v h s)) where
   -- a token outside verbatim. Of a brace it is to be shown apart, since a block may stand there in one sheet and not in the other
   pub each-rule : (h : Here) → At h → (P (container x v h (plain str) s) (container y v h (plain str) s)

@@ -1,5 +1,5 @@
 -- The laws of closing marks: two are the same if and only if they are equal.
-use Rattle.std.proofs.Common.{ℕ, ◌-◌, ◌≡◌, refl, ap, sym, ◌∙◌, List, [], ◌∷◌, Bool, true, false, eqb, get_or}
+use Rattle.std.proofs.Common.{ℕ, ◌-◌, ◌≡◌, refl, ap, sym, ◌∙◌, List, [], ◌∷◌, true, false, get_or}
 use borrow.Author.Tests.{eq-eqb, ne_eqb, eqb-true}
 use Rattle.std.proofs.lemmas.Bool.{true≢false}
 use Rattle.reading.specs.declared.Closer.{Closer}

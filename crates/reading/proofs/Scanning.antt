@@ -3,7 +3,6 @@ use Rattle.std.specs.Prelude.{None}
 use Prim.Native.Nat.{ℕ, zero, suc, ◌+◌, ◌-◌, ◌*◌, ◌≤◌, ◌<◌}
 use mathlib.Core.Path.{◌≡◌, refl, ap, subst}
 use mathlib.Core.List.{List, [], ◌∷◌, ◌++◌, map-append}
-use mathlib.Core.Logic.{inl}
 use native.Mathlib.Nat.{mul-suc}
 use native.Mathlib.Omega.{arith}
 use lib.ListN.{length, drop, length-append, length-drop}
@@ -12,7 +11,7 @@ use Rattle.dash.specs.Dashes.{dashes_of, dots_of}
 use Rattle.dash.proofs.Splits.{dashes-whole, dots-whole}
 use Rattle.reading.specs.declared.Event.{Event}
 use Rattle.reading.specs.Events.{nowhere, in_text, str, ellipsis, endash, emdash}
-use Rattle.reading.specs.Machine.{View, State, Here, puts, no_str}
+use Rattle.reading.specs.Machine.{View, State, Here, puts}
 use Rattle.reading.specs.Atoms.{row, dashes, dots, autolinked, named}
 use Rattle.reading.specs.Walked.{neither, walk_by, walk_of}
 use Rattle.reading.proofs.Matching.{Still, still-nil, still-neither, still-append, wraps-match, Wraps}
@@ -41,18 +40,18 @@ module _ (Loose : ℕ → Type 0) (text : List ℕ) where
   module _ (v : View) (m : ℕ) (h : Here) (k : HereOk v h) (s : State) (no : s.inside ≡ None) (g : Out Loose text (v.base + h.from) (m + h.from) s) where
     -- hyphens, two and more
     pub dashes-fine : 2 ≤ h.to - h.from
-        → Fine Loose text v m (suc h.from) (record { cursor = h.cursor; state = puts (dashes (dashes_of (h.to - h.from)) (v.base + h.from)) no_str s })
+        → Fine Loose text v m (suc h.from) (record { cursor = h.cursor; state = puts (dashes (dashes_of (h.to - h.from)) (v.base + h.from)) None s })
     unfolding dashes
     dashes-fine l =
         fine-at Loose text v m (suc h.from) h.to (omega (arith, k.long)) h.cursor _ k.sound k.place
         (good-out Loose text _ _ _ no
-        (out-puts Loose text (ems ++ ens) no_str (v.base + h.from) (v.base + h.to) (m + h.from) (m + h.to) s g
+        (out-puts Loose text (ems ++ ens) None (v.base + h.from) (v.base + h.to) (m + h.from) (m + h.to) s g
         (covers-append Loose (v.base + h.from) ems (v.base + h.from + 3 * em) ens (v.base + h.to)
         (row-covers emdash 3 em (v.base + h.from) (v.base + h.from + 3 * em) refl)
         (row-covers endash 2 en (v.base + h.from + 3 * em) (v.base + h.to) (omega (arith, whole, k.long))))
         (rw (map-append walk_of ems ens) (still-append (walks ems) (walks ens) (row-still emdash 3 em _ (omega arith)) (row-still endash 2 en _ (omega arith))))
         (omega (arith, length-append ems ens, row-long emdash 3 em (v.base + h.from), row-long endash 2 en (v.base + h.from + 3 * em), whole, k.long))
-        (inl refl)))
+        (tt)))
       where
         n : ℕ
         n = h.to - h.from
@@ -78,12 +77,12 @@ module _ (Loose : ℕ → Type 0) (text : List ℕ) where
         fine-at Loose text v m (suc h.from) h.to (omega (arith, k.long)) h.cursor _ k.sound k.place
         (good-out Loose text _ _ _ no
         (subst (λ (j : ℕ). Out Loose text (v.base + j) (m + h.to) (dots v h.from (h.to - h.from) s)) end
-        (out-put Loose text v str (h.from + 3 * e) (h.from + (h.to - h.from)) (m + h.from + e) (m + h.to) (puts es no_str s) (omega (arith, few)) (omega arith)
-        (out-puts Loose text es no_str (v.base + h.from) (v.base + (h.from + 3 * e)) (m + h.from) (m + h.from + e) s g
+        (out-put Loose text v str (h.from + 3 * e) (h.from + (h.to - h.from)) (m + h.from + e) (m + h.to) (puts es None s) (omega (arith, few)) (omega arith)
+        (out-puts Loose text es None (v.base + h.from) (v.base + (h.from + 3 * e)) (m + h.from) (m + h.from + e) s g
         (row-covers ellipsis 3 e (v.base + h.from) (v.base + (h.from + 3 * e)) (omega arith))
         (row-still ellipsis 3 e (v.base + h.from) (omega arith))
         (omega (arith, row-long ellipsis 3 e (v.base + h.from)))
-        (inl refl))
+        (tt))
         (omega (arith, few, k.long)))))
       where
         e : ℕ
@@ -108,17 +107,17 @@ module _ (Loose : ℕ → Type 0) (text : List ℕ) where
       named-fine kind l =
           fine-at Loose text v m (suc h.from) (h.to + n + 1) (omega (arith, k.long)) _ _ (fresh-sound v.bytes (h.to + n + 1) _ within) refl
           (good-out Loose text _ _ _ no
-          (out-puts Loose text _ no_str (v.base + h.from) (v.base + (h.to + n + 1)) (m + h.from) (m + (h.to + n + 1)) s g
+          (out-puts Loose text _ None (v.base + h.from) (v.base + (h.to + n + 1)) (m + h.from) (m + (h.to + n + 1)) s g
           (gap-none Loose (v.base + h.from), omega (arith, k.long), gap_same Loose _ _ (omega arith))
           (rw (walk-neither Loose text kind (in_text (v.base + h.to) (v.base + h.to + n)) l) (still-neither [] still-nil))
-          (omega (arith, k.long)) (inl refl)))
+          (omega (arith, k.long)) (tt)))
 
       pub autolinked-fine : 1 ≤ n → Fine Loose text v m (suc h.from) (autolinked v h n s)
       unfolding Covers walk_by Wraps
       autolinked-fine l =
           fine-at Loose text v m (suc h.from) (h.to + n + 1) (omega (arith, k.long)) _ _ (fresh-sound v.bytes (h.to + n + 1) _ within) refl
           (good-out Loose text _ _ _ no
-          (out-puts Loose text _ no_str (v.base + h.from) (v.base + (h.to + n + 1)) (m + h.from) (m + (h.to + n + 1)) s g (
+          (out-puts Loose text _ None (v.base + h.from) (v.base + (h.to + n + 1)) (m + h.from) (m + (h.to + n + 1)) s g (
             gap-none Loose (v.base + h.from),
             omega (arith, k.long),
             (
@@ -132,4 +131,4 @@ module _ (Loose : ℕ → Type 0) (text : List ℕ) where
             ),
           )
           (wraps-match _ (neither ∷ []) (still-neither [] still-nil))
-          (omega (arith, k.long)) (inl refl)))
+          (omega (arith, k.long)) (tt)))

@@ -1,5 +1,5 @@
 -- Containers (document 01, "Containers"; Djot's rules on emphasis and its like, quotes, spans, links and images).
-use Rattle.std.specs.Prelude.{ℕ, suc, ◌+◌, ◌-◌, List, [], ◌∷◌, Bool, true, false, not, ◌&&◌, ◌||◌, leb, eqb, length, get_or, take, drop, Option, Some, None}
+use Rattle.std.specs.Prelude.{ℕ, suc, ◌+◌, ◌-◌, List, [], ◌∷◌, Bool, true, false, not, ◌&&◌, ◌||◌, leb, eqb, length, get_or, take, drop, Option, Some, None, is_some}
 use Rattle.lex.specs.declared.lex.Token.{Token}
 use Rattle.classes.specs.Classes.{blank}
 use Rattle.lex.specs.declared.lex.Cursor.{Cursor}
@@ -15,7 +15,7 @@ use Rattle.reading.specs.declared.Role.TheVariants as role
 use Rattle.reading.specs.declared.DelimEventKind.{DelimEventKind}
 use Rattle.reading.specs.declared.DelimEventKind.TheVariants as makes
 use Rattle.reading.specs.Events.{event, nowhere, becomes, becomes_to, enter, exit, str}
-use Rattle.reading.specs.Machine.{View, Sheet, State, Turn, Here, amend, prev, puts, put, no_str, noting, with_openers, with_queue, with_link}
+use Rattle.reading.specs.Machine.{View, Sheet, State, Turn, Here, amend, prev, puts, put, noting, with_openers, with_queue, with_link}
 use Rattle.reading.specs.Tokens.{role_of, closed_by, two_way, may_be_empty, is_single, unclosed, closing_of, link_sort}
 use Rattle.reading.specs.Labels.{Labelled, label_of, label_home}
 use Rattle.reading.specs.Verbatim.{nothing}
@@ -39,7 +39,7 @@ may_close v h s o =
 -- a container or a pair of quotes: the opener's event becomes the first of the pair, and the second is put
 abbrev pub closes_pair : View → Here → ℕ → ℕ → Opener → State → State
 closes_pair v h first second o s =
-    puts (event second (v.base + h.from) (v.base + h.to) ∷ []) no_str
+    puts (event second (v.base + h.from) (v.base + h.to) ∷ []) None
     (with_queue (amend (becomes first nowhere) o.event s.queue) s)
 
 -- the bracket that a `]` takes along, if it does: `(` of an inline link (true), or `[` of one by reference
@@ -84,7 +84,7 @@ link_queue k l v h o q =
     (amend (becomes_to (exit k) l.home (v.base + h.to)) (o.event - 1) (amend (becomes (enter k) l.home) o.span q))
 
 abbrev pub closes_link : ℕ → Labelled → View → Here → Opener → State → State
-closes_link k l v h o s = with_link l.labels l.fits (noting (link_queue k l v h o s.queue) no_str s)
+closes_link k l v h o s = with_link l.labels l.fits (noting (link_queue k l v h o s.queue) None s)
 
 -- closing, where the newer openers are discarded already. After it the next token is peeked at, so that a Text there is not joined
 unfoldable pub close_as : Sheet → View → Here → Opener → DelimEventKind → State → Turn
@@ -106,7 +106,7 @@ blank_after v h = leb (length v.bytes) h.to || blank (get_or v.bytes h.to 0)
 -- a two-way opener does not open before a blank or the line's end; a single quote not directly after a Str unless a blank stands before it
 unfoldable pub may_open : View → Here → State → Sort → Bool
 may_open v h s o =
-    not (two_way o && blank_after v h) && not (is_single o && s.last.str && not (blank (prev v h.from)))
+    not (two_way o && blank_after v h) && not (is_single o && is_some s.last && not (blank (prev v h.from)))
 
 -- an opener, and its event: what it is if it is never closed
 abbrev pub open_as : View → Here → Sort → State → State

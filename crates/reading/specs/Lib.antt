@@ -1,6 +1,7 @@
 pub mod Events
 pub mod Closers
 pub mod Machine
+pub mod Sorts
 pub mod Tokens
 pub mod Atoms
 pub mod Verbatim

@@ -1,5 +1,5 @@
 -- What a step of the reading goes by: the view of a line, the rules of the reading, the state, and an event put into the queue.
-use Rattle.std.specs.Prelude.{ℕ, zero, suc, ◌+◌, ◌-◌, List, [], ◌∷◌, ◌++◌, Bool, true, false, not, ◌&&◌, ltb, eqb, get_or, take, drop, Option}
+use Rattle.std.specs.Prelude.{ℕ, zero, suc, ◌+◌, ◌-◌, List, [], ◌∷◌, ◌++◌, Bool, true, false, not, ◌&&◌, ltb, eqb, get_or, take, drop, Option, Some, None}
 use Rattle.reading.specs.declared.Place.{Place}
 use Rattle.reading.specs.declared.Verbatim.{Verbatim}
 use Prim.Native.Char.{code}
@@ -56,7 +56,7 @@ pub record State : Type 0 where
   pub queue : List Event
   pub openers : List Opener
   pub inside : Option Verbatim
-  pub last : Last
+  pub last : Option Last
   pub labels : List ℕ
   pub fits : Bool
   pub links : Link
@@ -97,18 +97,15 @@ dollars_of v i j =
       | true ↦ elim (ltb (suc i) j && dollar v (j - 1)) [ true ↦ 2 | false ↦ 1 ]
     ]
 
-abbrev pub no_str : Last
-no_str = record { str = false; end = place 0; dollars = 0 }
-
--- what is noted of an event of a kind from the i-th byte to before the j-th
-unfoldable pub last_of : View → ℕ → ℕ → ℕ → Last
+-- what is noted of an event of a kind from the i-th byte to before the j-th: nothing, if it is no Str
+unfoldable pub last_of : View → ℕ → ℕ → ℕ → Option Last
 last_of v kind i j =
-    elim (eqb kind str) [ true ↦ record { str = true; end = place (v.base + j); dollars = dollars_of v i j } | false ↦ no_str ]
+    elim (eqb kind str) [ true ↦ Some record { end = place (v.base + j); dollars = dollars_of v i j } | false ↦ None ]
 
 -- The state with one part changed. Here, and for `start` and `refuse` of `Reading`, all of its parts are named; elsewhere it is passed on.
 
 -- another queue, and what is noted of its last event
-abbrev pub noting : List Event → Last → State → State
+abbrev pub noting : List Event → Option Last → State → State
 noting q l s =
     record {
       queue = q;
@@ -125,7 +122,7 @@ abbrev pub with_queue : List Event → State → State
 with_queue q s = noting q s.last s
 
 -- events behind the queue, and what is noted of the last
-abbrev pub puts : List Event → Last → State → State
+abbrev pub puts : List Event → Option Last → State → State
 puts es l s = noting (s.queue ++ es) l s
 
 -- an event without home, from the i-th byte of the line to before the j-th

@@ -13,7 +13,7 @@ use Rattle.reading.specs.declared.Line.{Line}
 use Rattle.reading.specs.declared.Role.{Role}
 use Rattle.reading.specs.declared.Role.TheVariants as role
 use Rattle.reading.specs.Events.{place, link, longest_run, str, symbol, footnote}
-use Rattle.reading.specs.Machine.{View, Sheet, State, Turn, Here, view_of, rules_of, puts, put, no_str, with_inside}
+use Rattle.reading.specs.Machine.{View, Sheet, State, Turn, Here, view_of, rules_of, puts, put, with_inside}
 use Rattle.reading.specs.Tokens.{role_of, is_caret, plain, bracket}
 use Rattle.reading.specs.Atoms.{dashes, dots, autolinked, named}
 use Rattle.reading.specs.Verbatim.{opens_verbatim, in_verbatim, moved_on, flag_of, ended_at}
@@ -79,7 +79,7 @@ outside x v h role.Periods s = record { cursor = h.cursor; state = dots v h.from
 outside x v h role.Hyphens s =
     elim (ltb (h.to - h.from) 2) [
       | true ↦ container x v h (plain str) s
-      | false ↦ record { cursor = h.cursor; state = puts (dashes (dashes_of (h.to - h.from)) (v.base + h.from)) no_str s }
+      | false ↦ record { cursor = h.cursor; state = puts (dashes (dashes_of (h.to - h.from)) (v.base + h.from)) None s }
     ]
 outside x v h (role.Other m) s = container x v h m s
 
@@ -135,7 +135,7 @@ start =
       queue = [];
       openers = [];
       inside = None;
-      last = no_str;
+      last = None;
       labels = [];
       fits = true;
       links = link 0;

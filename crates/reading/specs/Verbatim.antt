@@ -9,7 +9,7 @@ use Rattle.reading.specs.declared.Event.{Event}
 use Rattle.reading.specs.declared.Verbatim.{Verbatim}
 use Rattle.reading.specs.declared.Last.{Last}
 use Rattle.reading.specs.Events.{event, in_text, becomes, shorter, exit_of, enter, str, verbatim, raw_format, inline_math, display_math}
-use Rattle.reading.specs.Machine.{View, Rules, State, Turn, Here, amend, amend_last, puts, put, no_str, with_queue, with_inside}
+use Rattle.reading.specs.Machine.{View, Rules, State, Turn, Here, amend, amend_last, puts, put, with_queue, with_inside}
 use Rattle.reading.specs.Tokens.{role_of, is_run, is_format}
 
 -- the lexer in verbatim, or out of it
@@ -17,8 +17,9 @@ abbrev pub flagged : Bool → Cursor → Cursor
 flagged b c = record { pos = c.pos; escape = c.escape; next = c.next; verbatim = b }
 
 -- how many dollars the run that begins at a place takes: those at the end of a Str that ends there
-unfoldable pub taken : Last → ℕ → ℕ
-taken l at = elim (eqb l.end.0 at) [ true ↦ l.dollars | false ↦ 0 ]
+unfoldable pub taken : Option Last → ℕ → ℕ
+taken None at = 0
+taken (Some l) at = elim (eqb l.end.0 at) [ true ↦ l.dollars | false ↦ 0 ]
 
 -- none: verbatim; one: inline math; two: display math
 unfoldable pub opened_as : ℕ → ℕ
@@ -36,7 +37,7 @@ opens_with n v h s =
       keep = suc (length s.queue);
       here = true;
     })
-    (puts (event (enter (opened_as n)) (v.base + h.from - n) (v.base + h.to) ∷ []) no_str
+    (puts (event (enter (opened_as n)) (v.base + h.from - n) (v.base + h.to) ∷ []) None
     (with_queue (amend_last (shorter n) s.queue) s))
 
 abbrev pub opens_verbatim : View → Here → State → Turn
@@ -57,7 +58,7 @@ nothing = event 0 0 0
 -- When a verbatim ends, the event at the opener's place decides the exit, which is put behind what is kept of the queue
 abbrev pub exits : Verbatim → List Event → ℕ → ℕ → State → State
 exits w q a b s =
-    with_inside None (puts (exit_of (get_or s.queue w.event nothing) a b ∷ []) no_str (with_queue q s))
+    with_inside None (puts (exit_of (get_or s.queue w.event nothing) a b ∷ []) None (with_queue q s))
 
 -- the raw format behind a closing run: only where the token there is `{=`
 unfoldable pub format_ahead : View → ℕ → Option Token → Option ℕ

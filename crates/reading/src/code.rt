@@ -1,4 +1,5 @@
-// The refusals: the number of the first question of document 01 that is answered no.
+// The refusals in numbers, for C: that of the first question of document 01 that is answered no. In
+// the code they are the cases of `Refusal`.
 pub const READING: u32 = 1;
 
 pub const TOO_LARGE: u32 = 2;

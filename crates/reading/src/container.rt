@@ -1,4 +1,5 @@
-// The containers, in the order of the source's `Container`. Span, 0, is never handed out.
+// The containers, in the order of the source's `Container`. Span, 0, is never handed out. They are
+// numbers, as the kinds are, which are made of them by a sum: see `kind`.
 pub const SUBSCRIPT: u32 = 1;
 
 pub const SUPERSCRIPT: u32 = 2;

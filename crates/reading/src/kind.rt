@@ -1,4 +1,8 @@
-// The kinds of events. Container k is entered by the kind ENTER + k, and left by EXIT + k; smaller kinds do neither.
+// The kinds of events. Container k is entered by the kind ENTER + k, and left by EXIT + k; smaller
+// kinds do neither. They are numbers, for the C interface: a record that is lent or handed out
+// holds any number as its kind, the rules are of all numbers (what is ENTER and more opens or
+// closes), and so are the functions that take a kind. An enum would be a second name for each,
+// converted at every such call.
 use crate::container;
 
 pub const STR: u32 = 1;

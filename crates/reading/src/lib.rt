@@ -1,6 +1,9 @@
 #![tactic(auto)]
-// The types of a reading: lines, events, openers, and the parts of the parser's state. The definition in `specs/` and the parser share
-// them.
+// The types of a reading: lines, events, openers, and the parts of the parser's state. The
+// definition in `specs/` and the parser share them.
+ghost use Rattle.std.specs.Prelude.{◌≡◌};
+ghost use Rattle.reading.specs.Sorts.{number, sort_at};
+
 pub mod code;
 pub mod container;
 pub mod kind;
@@ -24,7 +27,8 @@ pub const LABEL_LIMIT: usize = 4294967295;
 // The longest run of backticks that opens.
 pub const LONGEST_RUN: usize = 255;
 
-// The homes.
+// The homes: numbers, for the C interface, since a record that is lent holds any number as its
+// home.
 pub const NO_HOME: u32 = 0;
 
 pub const IN_TEXT: u32 = 1;
@@ -47,7 +51,8 @@ pub struct Place(pub u32);
 #[derive(Clone, Copy)]
 pub struct Link(pub u32);
 
-// What an event holds beside its kind and span: the home, from where to where in it, and the link number.
+// What an event holds beside its kind and span: the home, from where to where in it, and the link
+// number. It is read out of any record, and so has a number where an Option would be.
 #[derive(Clone, Copy)]
 pub struct Home {
     pub home: u32,
@@ -56,7 +61,15 @@ pub struct Home {
     pub link: Link,
 }
 
-// An event, as it is handed out.
+// No home.
+pub const NOWHERE: Home = Home {
+    home: NO_HOME,
+    start: Place(0),
+    end: Place(0),
+    link: Link(0),
+};
+
+// An event, as it is handed out: flat, as the record is that C sees.
 #[derive(Clone, Copy)]
 pub struct Event {
     pub kind: u32,
@@ -68,7 +81,20 @@ pub struct Event {
     pub link: Link,
 }
 
-// The sorts of openers. Those written with a brace are one-way; `*`, `_`, `^`, `~` without one and the quotes are two-way.
+impl Event {
+    ghost use Rattle.reading.specs.Labels.{part};
+
+    // The bytes of the text under its span, as far as there are any: a lent record has any places.
+    pub fn under(self, text: &[u8]) -> &[u8]
+        ensures { result.now ≡ part text.now self.start.0 self.end.0 }
+    {
+        let end = (self.end.0 as usize).min(text.len());
+        &text[(self.start.0 as usize).min(end)..end]
+    }
+}
+
+// The sorts of openers. Those written with a brace are one-way; `*`, `_`, `^`, `~` without one and
+// the quotes are two-way.
 #[derive(Clone, Copy)]
 pub enum Sort {
     Span,
@@ -92,7 +118,49 @@ pub enum Sort {
     InlineImage,
 }
 
-// A potential opener: its sort, the place of its event in the queue and, of a link, that of the event of its text's `[`.
+// The number of a sort in an opener's record: its place in the order above.
+impl From<Sort> for u32 {
+    ghost from_gives = { λ s n. n ≡ number s };
+
+    #[tactic(auto, unfolding(crate::specs::Sorts::number))]
+    fn from(s: Sort) -> u32 {
+        s as u32
+    }
+}
+
+// The sort of a number; of every number of 18 or more the last: a record of the lent room has any
+// number, and reading one cannot fail.
+impl From<u32> for Sort {
+    ghost from_gives = { λ n s. s ≡ sort_at n };
+
+    #[tactic(auto, unfolding(crate::specs::Sorts::sort_at, crate::specs::Sorts::sorts))]
+    fn from(n: u32) -> Sort {
+        match n {
+            0 => Sort::Span,
+            1 => Sort::Image,
+            2 => Sort::Strong,
+            3 => Sort::BraceStrong,
+            4 => Sort::Emphasis,
+            5 => Sort::BraceEmphasis,
+            6 => Sort::Superscript,
+            7 => Sort::BraceSuperscript,
+            8 => Sort::Subscript,
+            9 => Sort::BraceSubscript,
+            10 => Sort::Mark,
+            11 => Sort::Delete,
+            12 => Sort::Insert,
+            13 => Sort::SingleQuoted,
+            14 => Sort::DoubleQuoted,
+            15 => Sort::ReferenceLink,
+            16 => Sort::ReferenceImage,
+            17 => Sort::InlineLink,
+            _ => Sort::InlineImage,
+        }
+    }
+}
+
+// A potential opener: its sort, the place of its event in the queue and, of a link, that of the
+// event of its text's `[`. Places in the lent queue, since nothing is allocated.
 #[derive(Clone, Copy)]
 pub struct Opener {
     pub sort: Sort,
@@ -100,7 +168,8 @@ pub struct Opener {
     pub span: usize,
 }
 
-// The closing marks: what a token closes. A quote closes with a brace or without, so that each quote is one mark.
+// The closing marks: what a token closes. A quote closes with a brace or without, so that each
+// quote is one mark.
 #[derive(Clone, Copy, PartialEq, Eq)]
 pub enum Closer {
     // `]`
@@ -135,7 +204,8 @@ pub enum Closer {
     Quote2,
 }
 
-// A token as the rules on containers see it: what it opens, the mark that it closes, and the kind of event that it is alone.
+// A token as the rules on containers see it: what it opens, the mark that it closes, and the kind
+// of event that it is alone.
 #[derive(Clone, Copy)]
 pub struct Marks {
     pub opens: Option<Sort>,
@@ -171,7 +241,8 @@ pub struct Target {
     pub inline: bool,
 }
 
-// What the closing of an opener makes: a pair of events; a span, of an image or not, that may go on as a link; or a link.
+// What the closing of an opener makes: a pair of events; a span, of an image or not, that may go on
+// as a link; or a link.
 #[derive(Clone, Copy)]
 pub enum DelimEventKind {
     Pair(Pair),
@@ -179,8 +250,10 @@ pub enum DelimEventKind {
     Link(Target),
 }
 
-// An open verbatim: the place of its enter in the queue, the length of its run, whether non-blank content was seen, whether the last of it
-// was a backtick run, how long the queue was just behind it, and whether the opener stands on the current line.
+// An open verbatim: the place of its enter in the queue, the length of its run, whether non-blank
+// content was seen, whether the last of it was a backtick run, how long the queue was just behind
+// it, and whether the opener stands on the current line. How long the queue was is no part of an
+// Option with the run: of every open verbatim it says where the blanks at its end begin.
 #[derive(Clone, Copy)]
 pub struct Verbatim {
     pub event: usize,
@@ -191,10 +264,10 @@ pub struct Verbatim {
     pub here: bool,
 }
 
-// The newest event: whether it is a Str, the end of one, and how many dollars a backtick run right behind it would take.
+// The newest event, where it is a Str: its end, and how many dollars a backtick run right behind it
+// takes.
 #[derive(Clone, Copy)]
 pub struct Last {
-    pub str: bool,
     pub end: Place,
     pub dollars: u32,
 }

@@ -1,4 +1,5 @@
-// The refusals of document 01, by the first question that is answered no, with the place of those that have one.
+// The refusals of document 01, by the first question that is answered no, with the place of those
+// that have one.
 ghost use Rattle.std.specs.Prelude.{◌≡◌};
 ghost use Rattle.reading.specs.Refusals.{code_of, place_of, answer_of};
 

@@ -50,7 +50,8 @@ fn write_unpacked<W: Write, E: Write>(
     }
 }
 
-// The events of a list, by way of an event room.
+// The events of a list, by way of an event room. The definition has the two steps: any room
+// (`list_within`), and the program's (`list_text`).
 fn write_list<W: Write, E: Write>(
     to: &mut W,
     errors: &mut E,
@@ -66,6 +67,7 @@ fn write_list<W: Write, E: Write>(
     write_unpacked(to, errors, unpacked, events)
 }
 
+// By way of the program's room.
 #[tactic(auto, unfolding(crate::specs::Received::list_text))]
 fn receive<W: Write, E: Write>(to: &mut W, errors: &mut E, bytes: &[u8]) -> io::Result<()>
     ensures out { OnOk result (Appends (W.contents to.old) (W.contents to.new)
@@ -77,7 +79,8 @@ fn receive<W: Write, E: Write>(to: &mut W, errors: &mut E, bytes: &[u8]) -> io::
     write_list(to, errors, bytes, &mut events)
 }
 
-// At most 65,536 bytes of input are a list.
+// At most 65,536 bytes of input are a list. `page::page_input` says why it is a function of its
+// own.
 pub fn receive_input<R: Read, W: Write, E: Write>(
     from: &mut R,
     to: &mut W,

@@ -2,7 +2,6 @@
 // The fragment of a list of events: bytes of the sheet, one event, all events.
 ghost use Rattle.std.specs.Prelude.{◌≡◌, ◌∷◌, [], ◌/◌, length, true};
 ghost use Rattle.reading.specs.Events.{event_numbers};
-ghost use Rattle.reading.specs.Labels.{part as part_of};
 ghost use Rattle.listing.specs.Listing.{listed};
 ghost use Rattle.output.specs.Written.{Wrote, Adds};
 ghost use Rattle.markup.specs.Markup.{escape_by, entities, escaped, written, unless_raw, fragment};
@@ -31,7 +30,7 @@ fn put_escaped(b: u8, out: &mut Output) -> Option<()>
     }
 }
 
-// Bytes of the sheet.
+// Bytes of the sheet: those that are written as they are, up to one that is not, and so on.
 fn put_text(text: &[u8], out: &mut Output) -> Option<()>
     ensures { Adds out.old (escaped text.now) result out.new }
 {
@@ -43,23 +42,13 @@ fn put_text(text: &[u8], out: &mut Output) -> Option<()>
     Some(())
 }
 
-// The bytes of the sheet from a place to another, as far as there are any.
-fn part(text: &[u8], from: usize, to: usize) -> &[u8]
-    ensures { result.now ≡ part_of text.now from to }
-{
-    let end = to.min(text.len());
-    &text[from.min(end)..end]
-}
-
-// What an event writes.
+// What an event writes. Each arm has parameters of its own.
 #[tactic(auto, unfolding(markup::specs::Markup::tag, markup::specs::Markup::characters, markup::specs::Markup::escaped, markup::specs::Markup::find, markup::specs::Markup::breaking))]
 fn put_event(text: &[u8], e: Event, out: &mut Output) -> Option<()>
     ensures { Adds out.old (written text.now e) result out.new }
 {
     match e.kind {
-        kind::STR | kind::SYMBOL => {
-            put_text(part(text, e.start.0 as usize, e.end.0 as usize), out)
-        }
+        kind::STR | kind::SYMBOL => put_text(e.under(text), out),
         k if k < kind::ENTER => tags::put_atom(out, k),
         k if k < kind::EXIT => tags::put_opening(out, k - kind::ENTER),
         k => tags::put_closing(out, k - kind::EXIT),

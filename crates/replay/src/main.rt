@@ -4,7 +4,6 @@
 // run of hyphens, 6 a run of periods.
 use exports::{Counts, CursorNumbers, Scanned};
 use std::io;
-use std::io::{Read, Write};
 use stored::{Report, Sample};
 
 // Which tokens of a line are peeked at, and before which ones escapes are ignored: bit by bit, and
@@ -34,17 +33,13 @@ impl Patterns {
     }
 }
 
-fn byte(n: u64) -> u8 {
-    (n % 256) as u8
-}
-
 // The tokens of a line beside the stored ones.
 fn replay_tokens(sample: &mut Sample) -> bool {
     let peeks = sample.number();
     let verbatim = sample.number();
     let patterns = Patterns { peeks, verbatim };
     let mut room = [0u8; 128];
-    let line = sample.list(&mut room, byte);
+    let line = sample.list(&mut room, stored::byte);
     let tokens = sample.number();
     let mut s = exports::mivurakol_cursor(0, false);
     let mut same = true;
@@ -55,7 +50,7 @@ fn replay_tokens(sample: &mut Sample) -> bool {
         s = step.state;
     }
     let last = exports::mivurakol_next(line, patterns.before(line, s, tokens));
-    same & (last.token.kind == 42)
+    same & (last.token.kind == exports::NO_TOKEN)
 }
 
 // What a scan finds at the front of a line beside the stored answer.
@@ -63,7 +58,7 @@ fn replay_scan<F: Fn(&[u8], usize) -> Scanned>(sample: &mut Sample, scan: F) -> 
     requires { F.IsAlwaysCallable scan }
 {
     let mut room = [0u8; 128];
-    let s = scan(sample.list(&mut room, byte), 0);
+    let s = scan(sample.list(&mut room, stored::byte), 0);
     let found = sample.number() == 1;
     let len = sample.number();
     (s.found == found) & (s.len as u64 == len)
@@ -79,6 +74,7 @@ fn replay_counts<F: Fn(usize) -> Counts>(sample: &mut Sample, split: F) -> bool
     (c.first as u64 == first) & (c.second as u64 == second)
 }
 
+// The sort of the case says which; each arm has a check and a function of its own.
 fn replay_case(sample: &mut Sample) -> bool {
     match sample.number() {
         0 => replay_tokens(sample),
@@ -91,7 +87,8 @@ fn replay_case(sample: &mut Sample) -> bool {
     }
 }
 
-// Each case is at least one byte.
+// Each case is at least one byte, so there are no more than bytes: the loop asks for no promise of
+// how far a case goes.
 fn replay(bytes: &[u8]) -> Report {
     let mut sample = Sample { bytes, at: 0 };
     let mut cases = 0;
@@ -108,13 +105,7 @@ fn replay(bytes: &[u8]) -> Report {
     Report { cases, differ }
 }
 
-// The report of what an input holds, of which no more than the room is read.
-fn replay_input<R: Read, W: Write>(from: &mut R, to: &mut W, room: &mut [u8]) -> io::Result<()> {
-    let n = input::read_full(from, room)?;
-    stored::write_report(to, replay(&room[..n]))
-}
-
 fn main(rt: HostRuntime) -> io::Result<()> {
     let mut room = [0u8; 524288];
-    replay_input(&mut rt.reader(), &mut io::writer(&rt), &mut room)
+    stored::replay_input(&mut rt.reader(), &mut io::writer(&rt), &mut room, replay)
 }

@@ -2,15 +2,14 @@
 // Replays the stored sheets: each is read in rooms of the stored sizes, and the answer and every
 // number of every room are compared. Prints how many cases there were and how many differ.
 // A case is a line of numbers: the reading; how many bytes, starts and ends, each with these behind
-// it; the sizes of the rooms for events, queue, openers and labels; the answer; and, of a sheet that
-// is read, the events and the label bytes.
-ghost use Rattle.std.specs.Prelude.{◌≡◌, ℕ, ◌<◌, ◌≤◌, ◌==◌, map, length};
+// it; the sizes of the rooms for events, queue, openers and labels; the answer; and, of a sheet
+// that is read, the events and the label bytes.
+ghost use Rattle.std.specs.Prelude.{◌≡◌, ℕ, ◌==◌, map};
 ghost use Rattle.std.specs.List.{list_all};
 ghost use Rattle.replay_sheets.specs.Rooms.{same_as, holds};
 
 use reading::{Answer, EVENT_NUMBERS, code};
 use std::io;
-use std::io::{Read, Write};
 use stored::{Report, Sample};
 
 // What stands in the rooms before the call.
@@ -18,7 +17,8 @@ const OLD: u32 = 2779096485;
 
 const OLD_BYTE: u8 = 165;
 
-// What a room holds.
+// What a room holds. Of `Into<u64>` is known which numbers it may give, and the definitions take a
+// function (`map`).
 trait Number: Copy {
     ghost value: { Self → ℕ };
 
@@ -97,7 +97,8 @@ impl Rooms<'_> {
             & self.labels.iter().all(|b| *b == byte)
     }
 
-    // They are as a stored answer leaves them: 1 to 6 wrote nothing, 7 to 9 leave zero.
+    // They are as a stored answer leaves them: 1 to 6 wrote nothing, 7 to 9 leave zero. By the
+    // order of the numbers, as the stored answer has one.
     fn are_left_by(self, answer: Answer, sample: &mut Sample) -> bool {
         if code::BRACE <= answer.code {
             self.are(0, 0)
@@ -114,14 +115,6 @@ impl Rooms<'_> {
 
 fn small(n: u64) -> u32 {
     (n % 4294967296) as u32
-}
-
-fn byte(n: u64) -> u8 {
-    (n % 256) as u8
-}
-
-fn place(n: u64) -> usize {
-    n as usize
 }
 
 fn stored_answer(sample: &mut Sample) -> Answer {
@@ -183,45 +176,26 @@ fn replay_case(line: &[u8]) -> bool {
     let mut starts = [0usize; 64];
     let mut ends = [0usize; 64];
     let reading = small(sample.number());
-    let text = sample.list(&mut text, byte);
-    let starts = sample.list(&mut starts, place);
-    let ends = sample.list(&mut ends, place);
+    let text = sample.list(&mut text, stored::byte);
+    let starts = sample.list(&mut starts, |n| n as usize);
+    let ends = sample.list(&mut ends, |n| n as usize);
     replay_call(&mut sample, reading, text, starts, ends) & (sample.at == line.len())
 }
 
-// How long the first line is, its newline included.
-fn line_len(bytes: &[u8]) -> usize
-    requires { 0 < length bytes.now }
-    ensures { (0 < result) × (result ≤ length bytes.now) }
-{
-    match bytes.iter().position(|b| *b == b'\n') {
-        Some(n) => n + 1,
-        None => bytes.len(),
-    }
-}
-
+// A case is a line.
 fn replay(bytes: &[u8]) -> Report {
-    let mut rest = bytes;
     let mut cases = 0;
     let mut differ = 0;
-    while !rest.is_empty() {
-        let (line, behind) = rest.split_at(line_len(rest));
+    for line in bytes.split_inclusive(|b| *b == b'\n') {
         cases += 1;
         if !replay_case(line) {
             differ += 1;
         }
-        rest = behind;
     }
     Report { cases, differ }
 }
 
-// The report of what an input holds, of which no more than the room is read.
-fn replay_input<R: Read, W: Write>(from: &mut R, to: &mut W, room: &mut [u8]) -> io::Result<()> {
-    let n = input::read_full(from, room)?;
-    stored::write_report(to, replay(&room[..n]))
-}
-
 fn main(rt: HostRuntime) -> io::Result<()> {
     let mut room = [0u8; 524288];
-    replay_input(&mut rt.reader(), &mut io::writer(&rt), &mut room)
+    stored::replay_input(&mut rt.reader(), &mut io::writer(&rt), &mut room, replay)
 }

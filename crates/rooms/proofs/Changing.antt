@@ -7,9 +7,9 @@ use lib.ListN.{length}
 use Rattle.lex.specs.declared.lex.Cursor.{Cursor}
 use Rattle.reading.specs.Machine.{State, Turn}
 use Rattle.rooms.specs.declared.Parser.{Parser}
-use Rattle.rooms.specs.Records.{event_at, opener_at}
+use Rattle.rooms.specs.Records.{event_at}
 use Rattle.rooms.specs.Steps.{state, turn, Lent, Stepped, Changed, Queued, staying}
-use Rattle.rooms.proofs.Rows.{rows-length, stack-length}
+use Rattle.rooms.proofs.Rows.{rows-length}
 
 -- as many events as are counted
 pub queue_long : (p : Parser) → length (state p).queue ≡ p.at.events
@@ -87,17 +87,9 @@ module _ (p r : Parser) (f : State → Turn) where
     pub stepped-events : r.at.events ≡ length (f (state p)).state.queue
     stepped-events = sym (rows-length event_at r.at.events r.queue.now) ∙ ap (λ (a : Turn). length a.state.queue) c.same
 
-    pub stepped-openers : r.at.openers ≡ length (f (state p)).state.openers
-    stepped-openers = sym (stack-length opener_at r.at.openers r.openers.now) ∙ ap (λ (a : Turn). length a.state.openers) c.same
-
     -- what it does, told otherwise
     pub stepped-as : (g : State → Turn) → f (state p) ≡ g (state p) → Stepped p r g
     stepped-as g e = record { same = c.same ∙ e; lent = c.lent }
-
-    -- another step behind it
-    pub stepped-then : (t : Parser) (g h : State → Turn) → Stepped r t g → g (f (state p)).state ≡ h (state p) → Stepped p t h
-    stepped-then t g h d e =
-        record { same = d.same ∙ ap (λ (a : Turn). g a.state) c.same ∙ e; lent = lent-then p r t c.lent d.lent }
 
   module _ (c : Changed p r f) where
     pub changed-stepped : Stepped p r f
@@ -150,20 +142,6 @@ pub stepped-from : (p u r : Parser) (f g : State → Turn) → Stepped u r f →
     → f (state u) ≡ g (state p) → Stepped p r g
 stepped-from p u r f g c q o l e = record { same = c.same ∙ e; lent = lent-then p u r (lent-same p u q o l) c.lent }
 
-pub queued-from : (p u r : Parser) (f g : State → Turn) → Queued u r f → u.queue ≡ p.queue → u.openers ≡ p.openers → u.labels ≡ p.labels
-    → u.at.openers ≡ p.at.openers → u.at.labels ≡ p.at.labels → f (state u) ≡ g (state p) → Queued p r g
-queued-from p u r f g c q o l n k e =
-    record {
-      changed = record {
-        same = c.changed.same ∙ e;
-        lent = lent-then p u r (lent-same p u q o l) c.changed.lent;
-        labels = c.changed.labels ∙ k;
-        label_room = c.changed.label_room ∙ ap (λ (x : MutBor (List ℕ)). x.now) l;
-      };
-      openers = c.openers ∙ n;
-      opener_room = c.opener_room ∙ ap (λ (x : MutBor (List ℕ)). x.now) o;
-    }
-
 -- a change of the queue, and other marks on the parser with the same rooms and counts
 pub queued-to : (p r t : Parser) (f g : State → Turn) → Queued p r f → t.queue ≡ r.queue → t.openers ≡ r.openers → t.labels ≡ r.labels
     → t.at.openers ≡ r.at.openers → t.at.labels ≡ r.at.labels → turn t ≡ g (state p) → Queued p t g
@@ -184,7 +162,3 @@ module _ (p r t : Parser) (f g : State → State) where
   pub queued-on : Queued p r (staying p f) → Queued r t (staying r g) → Queued p t (staying p (λ s. g (f s)))
   queued-on c d =
       queued-then p r _ c t _ _ d (ap (λ (k : Cursor). record { cursor = k; state = g (f (state p)) }) (stepped-cursor p r _ (changed-stepped p r _ c.changed)))
-
-  pub changed-on : Changed p r (staying p f) → Changed r t (staying r g) → Changed p t (staying p (λ s. g (f s)))
-  changed-on c d =
-      changed-then p r _ c t _ _ d (ap (λ (k : Cursor). record { cursor = k; state = g (f (state p)) }) (stepped-cursor p r _ (changed-stepped p r _ c)))

@@ -4,9 +4,7 @@ use Prim.Native.Nat.{ℕ, zero, suc, ◌+◌, ◌-◌, ◌*◌, ◌≤◌, ◌<�
 use mathlib.Core.Path.{◌≡◌, refl, sym, ap, ◌∙◌}
 use mathlib.Core.List.{List, [], ◌∷◌}
 use native.Mathlib.Nat.{add-zero}
-use native.Mathlib.Decide.{ℕ_discrete}
 use native.Mathlib.Omega.{arith}
-use borrow.Author.Tests.{eq-eqb, ne_eqb}
 use lib.ListN.{length, get_or}
 use lib.Seq.{sets}
 use Rattle.reading.specs.declared.Closer.{Closer}
@@ -16,8 +14,8 @@ use Rattle.reading.specs.Tokens.{closed_by}
 use Rattle.reading.specs.Containers.{seek, seek_mark}
 use Rattle.reading.proofs.Ends.{seek-none}
 use Rattle.reading.proofs.Sameness.{same-equal, equal-same, unequal, differ}
-use Rattle.tables.specs.Tables.{number, sort_at}
-use Rattle.tables.proofs.Tables.{sort-number}
+use Rattle.reading.specs.Sorts.{number, sort_at}
+use Rattle.reading.proofs.Sorts.{sort-number}
 use Rattle.rooms.specs.Rows.{stack}
 use Rattle.rooms.specs.Records.{opener_at, opens, place}
 use Rattle.rooms.proofs.Rows.{stack_same, stack-length, sets-before, sets-at}

@@ -4,7 +4,7 @@ use Rattle.reading.specs.declared.Event.{Event}
 use Rattle.reading.specs.declared.Opener.{Opener}
 use Rattle.reading.specs.Events.{queue_numbers, opener_numbers}
 use Rattle.slots.specs.Slots.{event_in}
-use Rattle.tables.specs.Tables.{sort_at}
+use Rattle.reading.specs.Sorts.{sort_at}
 use Rattle.rooms.specs.Rows.{rows, stack}
 
 -- the event at place i; the eighth number is free

@@ -1,5 +1,5 @@
 -- What a status and the rooms stand for: the state of the definition.
-use Rattle.std.specs.Prelude.{ℕ, ◌+◌, ◌≤◌, List, true, length, take, None}
+use Rattle.std.specs.Prelude.{ℕ, ◌+◌, ◌≤◌, List, true, length, take, Option, None}
 use Rattle.lex.specs.declared.lex.Cursor.{Cursor}
 use Rattle.reading.specs.declared.Last.{Last}
 use Rattle.reading.specs.Events.{link, largest}
@@ -7,7 +7,7 @@ use Rattle.reading.specs.Machine as machine
 use Rattle.reading.specs.Machine.{State, Here}
 use Rattle.rooms.specs.declared.Status.{Status}
 use Rattle.rooms.specs.declared.View.{View}
-use Rattle.rooms.specs.declared.Span.{Span}
+use Rattle.rooms.specs.declared.span.Span.{Span}
 use Rattle.rooms.specs.Records.{events, opens}
 
 -- of a status with queue room q, opener room o and label room l
@@ -25,7 +25,7 @@ stands s q o l =
     }
 
 -- nothing queued, open or refused
-abbrev pub fresh_of : Cursor → Last → Status
+abbrev pub fresh_of : Cursor → Option Last → Status
 fresh_of c l =
     record {
       cursor = c;
@@ -49,6 +49,5 @@ here h s = record { from = h.from; to = h.to; cursor = s.cursor }
 
 -- a token of a line, whose places are small
 pub record Fits (v : machine.View) (h : Span) : Type 0 where
-  pub ordered : h.from ≤ h.to
   pub within : h.to ≤ length v.bytes
   pub small : v.base + length v.bytes ≤ largest

@@ -7,28 +7,34 @@ ghost use Rattle.reading.specs.Machine.{prev};
 ghost use Rattle.rooms.specs.Records.{event_at};
 ghost use Rattle.rooms.specs.Standing.{viewed};
 
+mod span;
+
 use lex::Cursor;
 use reading::{
     Closer, Event, Home, IN_TEXT, Last, Link, OPENER_NUMBERS, Opener, Place, QUEUE_NUMBERS,
     Verbatim,
 };
+pub use span::Span;
 
-// What a reading is at between two tokens: the cursor in the line, how many records the queue and the openers hold, the open verbatim, the
-// newest event, the label bytes built and whether all of them fitted, the next link's number, and the brace at which it stands.
+// What a reading is at between two tokens: the cursor in the line, how many records the queue and
+// the openers hold, the open verbatim, the newest event, the label bytes built and whether all of
+// them fitted, the next link's number, and the brace at which it stands. The bytes that were built
+// before one that did not fit are counted still.
 #[derive(Clone, Copy)]
 pub struct Status {
     pub cursor: Cursor,
     pub events: usize,
     pub openers: usize,
     pub inside: Option<Verbatim>,
-    pub last: Last,
+    pub last: Option<Last>,
     pub labels: usize,
     pub fits: bool,
     pub links: Link,
     pub refused: Option<Place>,
 }
 
-// The parser: what it is at, and the rooms that are lent to it, which hold the records and label bytes that it counts.
+// The parser: what it is at, and the rooms that are lent to it, which hold the records and label
+// bytes that it counts.
 #[derive(Drop)]
 pub struct Parser<'q, 'o, 'l> {
     pub at: Status,
@@ -40,19 +46,14 @@ pub struct Parser<'q, 'o, 'l> {
     ghost labels_held: { at.labels ≤ length labels.now },
 }
 
-// A line: its bytes, where it starts, and the byte before it, 0 at the text's start.
+// A line: its bytes, where it starts, and the byte before it, 0 at the text's start. It is of the line
+// alone: a label may lie in another one, and who makes labels has the text beside it. What is asked of
+// a line and a token in it differs from function to function, so that the two are lent apart.
 #[derive(Clone, Copy)]
 pub struct View<'s> {
     pub bytes: &'s [u8],
     pub base: usize,
     pub before: u8,
-}
-
-// A token within its line.
-#[derive(Clone, Copy)]
-pub struct Span {
-    pub from: usize,
-    pub to: usize,
 }
 
 impl<'s> View<'s> {
@@ -105,9 +106,9 @@ pub fn event_of(kind: u32, start: Place, end: Place, h: Home) -> Event
     ensures { result ≡ numbers.homed kind h start.0 end.0 }
 {
     Event {
-        kind: kind,
-        start: start,
-        end: end,
+        kind,
+        start,
+        end,
         home: h.home,
         home_start: h.start,
         home_end: h.end,
@@ -115,19 +116,12 @@ pub fn event_of(kind: u32, start: Place, end: Place, h: Home) -> Event
     }
 }
 
-// The event at place i of the queue.
+// The event at place i of the queue, a lent room of records.
 pub fn event_at(queue: &[u32], i: usize) -> Event
     requires { i * queue_numbers + queue_numbers ≤ length queue.now }
     ensures { result ≡ event_at queue.now i }
 {
     slots::event_at::<QUEUE_NUMBERS>(queue, i)
-}
-
-// A number of a room as a place in one.
-pub fn wide(x: u32) -> usize
-    ensures { result ≡ x }
-{
-    x as usize
 }
 
 impl<'q, 'o, 'l> Parser<'q, 'o, 'l> {
@@ -141,7 +135,7 @@ impl<'q, 'o, 'l> Parser<'q, 'o, 'l> {
     // Nothing is queued, open or refused.
     pub fn new(
         cursor: Cursor,
-        last: Last,
+        last: Option<Last>,
         queue: &'q mut [u32],
         openers: &'o mut [u32],
         labels: &'l mut [u8],
@@ -155,11 +149,11 @@ impl<'q, 'o, 'l> Parser<'q, 'o, 'l> {
         ensures labels_held { result.labels.now ≡ labels.old }
     {
         let at = Status {
-            cursor: cursor,
+            cursor,
             events: 0,
             openers: 0,
             inside: None,
-            last: last,
+            last,
             labels: 0,
             fits: true,
             links: Link(0),
@@ -173,16 +167,17 @@ impl<'q, 'o, 'l> Parser<'q, 'o, 'l> {
         }
     }
 
-    // The event at place i of the queue.
+    // The event at place i of the queue. It asks that the queue holds such a record, as those below do:
+    // a place of one that is not counted any more is none less.
     pub fn event_at(&self, i: usize) -> Event
         requires { i * queue_numbers + queue_numbers ≤ length self.now.queue.now }
         ensures { result ≡ event_at self.now.queue.now i }
     {
-        slots::event_at::<QUEUE_NUMBERS>(self.queue, i)
+        event_at(self.queue, i)
     }
 
     // One more event, and what is noted of it. What lies behind it is open.
-    pub fn push(&mut self, e: Event, last: Last)
+    pub fn push(&mut self, e: Event, last: Option<Last>)
         requires { Room 1 self.old }
         ensures queued { Queued self.old self.new (staying self.old (puts (e ∷ []) last)) }
         ensures count { self.new.at.events ≡ self.old.at.events + 1 }
@@ -193,7 +188,9 @@ impl<'q, 'o, 'l> Parser<'q, 'o, 'l> {
         self.at.last = last;
     }
 
-    // Another kind and home for the event at place i, whose span stays.
+    // Another kind and home for the event at place i, whose span stays. This and the two below
+    // differ in what they make of the event: as one function they would take a closure, which each
+    // contract would have to tell as a function of events.
     pub fn set_kind(&mut self, i: usize, kind: u32, h: Home)
         requires { i * queue_numbers + queue_numbers ≤ length self.old.queue.now }
         ensures all { (n : ℕ) → events n self.new.queue.now ≡ amend (becomes kind h) i (events n self.old.queue.now) }
@@ -240,16 +237,16 @@ impl<'q, 'o, 'l> Parser<'q, 'o, 'l> {
         self.at.events = n;
     }
 
-    // The opener at place i.
+    // The opener at place i: three numbers of its record; the fourth is open.
     pub fn opener_at(&self, i: usize) -> Opener
         requires { i * opener_numbers + opener_numbers ≤ length self.now.openers.now }
         ensures { result ≡ opener_at self.now.openers.now i }
     {
         let at = i * OPENER_NUMBERS;
         Opener {
-            sort: tables::sort_of(self.openers[at]),
-            event: wide(self.openers[at + 1]),
-            span: wide(self.openers[at + 2]),
+            sort: self.openers[at].into(),
+            event: self.openers[at + 1] as usize,
+            span: self.openers[at + 2] as usize,
         }
     }
 
@@ -264,13 +261,14 @@ impl<'q, 'o, 'l> Parser<'q, 'o, 'l> {
     {
         let n = self.at.openers;
         let at = n * OPENER_NUMBERS;
-        self.openers[at] = tables::number_of(o.sort);
+        self.openers[at] = o.sort.into();
         self.openers[at + 1] = o.event as u32;
         self.openers[at + 2] = o.span as u32;
         self.at.openers = n + 1;
     }
 
-    // The newest of the first n openers that a mark closes; what closes nothing finds none.
+    // The newest of the first n openers that a mark closes; what closes nothing finds none. A loop
+    // from the top with a break is the form that document 01 names (docs/DECISIONS.md, "Forms").
     pub fn seek(&self, n: usize, closes: Option<Closer>) -> Option<usize>
         requires { n * opener_numbers ≤ length self.now.openers.now }
         ensures sought { result ≡ place (sought closes (opens n self.now.openers.now)) }
@@ -283,7 +281,7 @@ impl<'q, 'o, 'l> Parser<'q, 'o, 'l> {
                 break None;
             }
             i -= 1;
-            if tables::closed_by(tables::sort_of(self.openers[i * OPENER_NUMBERS])) == mark {
+            if tables::closed_by(self.openers[i * OPENER_NUMBERS].into()) == mark {
                 break Some(i);
             }
         }

@@ -87,23 +87,23 @@ marked-at (b ∷ bs) m = go (in_set Unmarked b) refl (marked-at bs)
 
 -- the answer, from the end n of what is not marked
 module _ (s : List ℕ) (n : ℕ) (en : n ≡ run (in_set Unmarked) s) where
-  pub autolink-miss : mark (get_or s n 0) ≡ false → None ≡ autolink_of s
+  pub autolink_miss : mark (get_or s n 0) ≡ false → None ≡ autolink_of s
   unfolding autolink_of
-  autolink-miss m = rw (unmarked-at s (rw en at m), autolink_of)
+  autolink_miss m = rw (unmarked-at s (rw en at m), autolink_of)
 
-  pub autolink-end : length s ≤ n → None ≡ autolink_of s
+  pub autolink_end : length s ≤ n → None ≡ autolink_of s
   unfolding mark bytes among
-  autolink-end h = autolink-miss (ap mark (get_or-eq_default s 0 h))
+  autolink_end h = autolink_miss (ap mark (get_or-eq_default s 0 h))
 
-  pub autolink-hit : mark (get_or s n 0) ≡ true → (more : ℕ) → more ≡ run (in_set Address) (take (length s - n) (drop n s)) → closed_at s (n + more) 62 ≡ autolink_of s
+  pub autolink_hit : mark (get_or s n 0) ≡ true → (more : ℕ) → more ≡ run (in_set Address) (take (length s - n) (drop n s)) → closed_at s (n + more) 62 ≡ autolink_of s
   unfolding autolink_of upto_of
-  autolink-hit m more em =
+  autolink_hit m more em =
       let r = marked-at s (rw en at m) in
       let long : n + more ≡ run (in_set Address) s =
       rw (em, part-from s n, r.1, en)
       in
       rw (long, r.0, autolink_of)
 
-pub mark-is : (b : ℕ) → mark b ≡ (eqb b 58 || eqb b 64)
+pub mark_is : (b : ℕ) → mark b ≡ (eqb b 58 || eqb b 64)
 unfolding mark bytes among
-mark-is b = ap (λ (x : Bool). eqb b 58 || x) (or-false (eqb b 64))
+mark_is b = ap (λ (x : Bool). eqb b 58 || x) (or-false (eqb b 64))

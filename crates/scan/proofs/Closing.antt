@@ -1,13 +1,13 @@
 -- The byte that closes a scan, and a raw format.
 use Rattle.std.specs.Prelude.{None, Some}
-use Prim.Native.Nat.{ℕ, ◌≤◌, ◌<◌}
+use Prim.Native.Nat.{ℕ, ◌<◌}
 use mathlib.Core.Path.{◌≡◌, refl, sym, ◌∙◌}
 use mathlib.Core.List.{List}
 use mathlib.Core.Bool.{Bool, true, false}
 use native.Mathlib.Omega.{arith}
 use borrow.Author.Tests.{eq-eqb, ne_eqb, eqb-true, eqb-false}
 use lib.Dec.{eqb}
-use lib.ListN.{length, get_or, get_or-eq_default}
+use lib.ListN.{length, get_or}
 use Rattle.classes.specs.declared.Set.TheVariants.{Format}
 use Rattle.classes.specs.Sets.{in_set, run}
 use Rattle.classes.proofs.Parts.{stands}
@@ -21,9 +21,6 @@ module _ (s : List ℕ) (n close : ℕ) where
   pub closed-miss : (get_or s n 0 ≡ close → ⊥) → None ≡ closed_at s n close
   unfolding closed_at
   closed-miss e = rw (ne_eqb _ _ e, closed_at)
-
-  pub closed-end : 0 < close → length s ≤ n → None ≡ closed_at s n close
-  closed-end h l = closed-miss (λ e. omega (arith, sym (get_or-eq_default s 0 l) ∙ e))
 
   -- an accepted scan: its length, and the byte behind it, which lies within
   pub closed_some : 0 < close → (k : ℕ) → closed_at s n close ≡ Some k → (k ≡ n) × (n < length s) × (get_or s n 0 ≡ close)

@@ -1,11 +1,11 @@
 #![tactic(auto)]
-// The scans ahead of `inline.rs`, over a line from the place behind what opens.
+// The scans ahead of `inline.rs`, over a line from the place behind what opens. A scan finds the
+// length up to what closes, or nothing. It takes the line and a place: C lends any place, and one
+// past the line's end finds nothing.
 ghost use Rattle.std.specs.Prelude.{◌≡◌, ◌<◌, drop};
 ghost use Rattle.scan.specs.Scans.{closed_at, upto_of, autolink_of, symbol_of, footnote_of, raw_format_of};
 
 use classes::Set;
-
-// A scan finds the length up to what closes, or nothing.
 
 // Behind `<`: an address up to `>`, with a `:` or a `@` in it.
 #[tactic(auto, unfolding(crate::specs::Scans::autolink_of))]
@@ -52,6 +52,7 @@ fn ahead_of(src: &[u8], from: usize) -> &[u8]
 }
 
 // An address goes up to its first `:` or `@`, and from there to what ends it.
+#[tactic(auto, using(crate::proofs::Addresses::autolink_miss, crate::proofs::Addresses::autolink_end, crate::proofs::Addresses::autolink_hit, crate::proofs::Addresses::mark_is))]
 fn autolink(s: &[u8]) -> Option<usize>
     ensures { result ≡ autolink_of s.now }
 {
@@ -82,9 +83,5 @@ fn closed(s: &[u8], n: usize, close: u8) -> Option<usize>
     requires { 0 < close }
     ensures { result ≡ closed_at s.now n close }
 {
-    if (n < s.len()) && (s[n] == close) {
-        Some(n)
-    } else {
-        None
-    }
+    (n < s.len() && s[n] == close).then_some(n)
 }

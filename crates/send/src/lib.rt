@@ -20,7 +20,7 @@ use std::io::{Read, Write};
 const LIST_ROOM: usize = 27 * (BYTES + 1) + 5;
 
 // The packed list of some lines, in reading 0. It is refused as the reader does, and for nothing
-// else.
+// else. The calls answer numbers, for the C interface.
 fn pack_lines(text: &[u8], lines: &[Line], rooms: &mut SheetRooms, out: &mut [u8]) -> PackedAnswer
     requires { enough_bytes (length rooms.old.events / event_numbers) ≤ length out.old }
     ensures as_defined { call result out.new ≡ sent (outcome text.now lines.now 0
@@ -37,11 +37,7 @@ fn pack_lines(text: &[u8], lines: &[Line], rooms: &mut SheetRooms, out: &mut [u8
         &mut rooms.labels,
     );
     if answer.code != 0 {
-        return PackedAnswer {
-            code: answer.code,
-            place: answer.place as u64,
-            count: 0,
-        };
+        return PackedAnswer::refusal(answer.code, answer.place as usize);
     }
     let numbers = answer.events as usize * EVENT_NUMBERS;
     packed::pack(printing::front(&rooms.events, numbers), out)
@@ -66,7 +62,8 @@ fn write_answer<W: Write, E: Write>(
     }
 }
 
-// The packed list of a sheet, in reading 0, by way of an output room.
+// The packed list of a sheet, in reading 0, by way of an output room. The definition has the two
+// steps: any room (`packed_within`), and the program's (`packed_text`).
 fn write_packed<W: Write, E: Write>(
     to: &mut W,
     errors: &mut E,
@@ -87,6 +84,7 @@ fn write_packed<W: Write, E: Write>(
     write_answer(to, errors, answer, out)
 }
 
+// By way of the program's room.
 #[tactic(auto, unfolding(crate::specs::Sent::packed_text))]
 fn send<W: Write, E: Write>(to: &mut W, errors: &mut E, text: &[u8]) -> io::Result<()>
     requires { length text.now ≤ 1000 }
@@ -99,7 +97,8 @@ fn send<W: Write, E: Write>(to: &mut W, errors: &mut E, text: &[u8]) -> io::Resu
     write_packed(to, errors, text, &mut out)
 }
 
-// At most 1,000 bytes of input are a sheet.
+// At most 1,000 bytes of input are a sheet. `page::page_input` says why it is a function of its
+// own.
 pub fn send_input<R: Read, W: Write, E: Write>(
     from: &mut R,
     to: &mut W,

@@ -1,7 +1,7 @@
 -- The lines of a sheet, one after another: behind i of them the parser stands for what these give.
 use Rattle.std.specs.Prelude.{None, Option, Some}
 use Rattle.reading.specs.declared.Place.{Place}
-use Prim.Native.Nat.{ℕ, suc, ◌+◌, ◌*◌, ◌^◌, ◌≤◌, ◌<◌}
+use Prim.Native.Nat.{ℕ, suc, ◌+◌, ◌^◌, ◌≤◌, ◌<◌}
 use Prim.Native.Char.{code}
 use mathlib.Core.Path.{◌≡◌, refl, sym, ap, ◌∙◌, subst}
 use mathlib.Core.List.{List, [], ◌∷◌, ◌++◌, map-append}

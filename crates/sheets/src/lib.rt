@@ -1,6 +1,6 @@
 #![tactic(auto)]
-// The line list of a sheet, as a slice of records or as two slices of numbers, and the parser's way over it: a line with its braces, all lines, and the
-// end.
+// The line list of a sheet, as a slice of records or as two slices of numbers, and the parser's way
+// over it: a line with its braces, all lines, and the end.
 ghost use Rattle.std.specs.Prelude.{◌≡◌, ◌<◌, ◌≤◌, List, length, get_or};
 ghost use Rattle.reading.specs.declared.Line.{Line};
 ghost use Rattle.reading.specs.Machine.{view_of};
@@ -14,7 +14,8 @@ use attr::Validator;
 use reading::Line;
 use rooms::{Parser, Status};
 
-// A list of lines, in whatever it is kept.
+// A list of lines, in whatever it is kept. Text, lines and reading are lent apart: a block at a brace
+// is of no reading, and a question asks one of the three, as document 01 puts it.
 pub trait Lines: Copy {
     ghost listed: { Self → List Line };
 
@@ -38,14 +39,15 @@ impl<'a> Lines for &'a [Line] {
     }
 }
 
-// Line i runs from start i to before end i.
+// Line i runs from start i to before end i: C lends starts and ends as two slices of numbers.
 #[derive(Clone, Copy)]
 pub struct Pairs<'a> {
     pub starts: &'a [usize],
     pub ends: &'a [usize],
 }
 
-// A start without an end, or an end without a start, stands as a line that ends before it starts, which question 3 refuses.
+// A start without an end, or an end without a start, stands as a line that ends before it starts,
+// which question 3 refuses.
 const UNPAIRED: Line = Line { start: 1, end: 0 };
 
 impl<'a> Lines for Pairs<'a> {
@@ -68,8 +70,8 @@ impl<'a> Lines for Pairs<'a> {
     }
 }
 
-// Whether an attribute block stands at a brace of the i-th line: a fresh validator is fed from the brace to the line's end, then the later lines
-// whole, until it is decided.
+// Whether an attribute block stands at a brace of the i-th line: a fresh validator is fed from the
+// brace to the line's end, then the later lines whole, until it is decided.
 fn block_at<L: Lines>(text: &[u8], lines: L, i: usize, at: usize) -> bool
     requires { Within text.now (L.listed lines) i at }
     ensures { result ≡ block_at (views text.now (L.listed lines)) at }
@@ -86,7 +88,7 @@ fn block_at<L: Lines>(text: &[u8], lines: L, i: usize, at: usize) -> bool
     v.done()
 }
 
-// The i-th line. At each brace the validator is asked, once.
+// The i-th line. At each brace the validator is asked, once; the definition is of so many rounds.
 fn parse_line<L: Lines>(p: &mut Parser, text: &[u8], lines: L, i: usize, reading: u32)
     requires { Behind text.now (L.listed lines) i reading (state p.old) p.old.queue.now p.old.openers.now p.old.labels.now }
     ensures { Comes p.old p.new (line_of (sheet text.now (L.listed lines) reading (length p.old.labels.now)) (view_of text.now (get_or (L.listed lines) i none)) (state p.old)) }
@@ -96,19 +98,20 @@ fn parse_line<L: Lines>(p: &mut Parser, text: &[u8], lines: L, i: usize, reading
     };
     let l = lines.line(i);
     inline::begin_line(p, reading);
-    for round in 0..l.end - l.start + 1 {
-        inline::feed_line(p, text, l.start, l.end, reading);
+    for _ in 0..l.end - l.start + 1 {
+        inline::feed_line(p, text, l, reading);
         let Some(at) = p.at.refused else {
             return;
         };
         if block_at(text, lines, i, at.0 as usize) {
             return;
         }
-        inline::pass_brace(p, text, l.start, l.end, at);
+        inline::pass_brace(p, text, l, at);
     }
 }
 
-// All lines of a sheet, each from its start to before its end, and the end. The cursor that is handed back is of no line any more.
+// All lines of a sheet, each from its start to before its end, and the end. Of what the parser was
+// at, all but the cursor has meaning then.
 pub fn parse<L: Lines>(
     text: &[u8],
     lines: L,

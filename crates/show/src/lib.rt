@@ -36,7 +36,8 @@ fn show<W: Write>(to: &mut W, text: &[u8]) -> io::Result<()>
     )
 }
 
-// At most 1,000 bytes of input are a sheet.
+// At most 1,000 bytes of input are a sheet. `page::page_input` says why it is a function of its
+// own.
 pub fn show_input<R: Read, W: Write>(from: &mut R, to: &mut W) -> io::Result<()>
     ensures { IfSome (R.remaining from.old) (λ input. OnOk result
         (Appends (W.contents to.old) (W.contents to.new) (shown input))) }

@@ -1,5 +1,6 @@
 #![tactic(auto)]
-// An event as it lies in a room of numbers, in records of W numbers each: the first seven are the event's.
+// An event as it lies in a room of numbers, in records of W numbers each: the first seven are the
+// event's. A room is lent as numbers, by the C interface, so that a record is found by its place.
 ghost use Rattle.std.specs.Prelude.{◌≡◌, [], ◌∷◌, ◌+◌, ◌*◌, ◌≤◌, length};
 ghost use Rattle.std.proofs.lemmas.List.Edits.{sets};
 ghost use Rattle.reading.specs.Events.{event_numbers};

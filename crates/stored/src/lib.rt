@@ -1,16 +1,16 @@
 #![tactic(auto)]
 // Stored answers of the Rust, as decimal numbers with one byte behind each: what the programs that
 // replay them share.
-ghost use Rattle.std.specs.Prelude.{◌≡◌, min, length, OnOk, Some};
+ghost use Rattle.std.specs.Prelude.{◌≡◌, ◌%◌, min, length, OnOk, Some};
 ghost use Rattle.std.specs.List.{AllZip};
 ghost use Rattle.std.specs.Io.KnownBytes.{Appends};
 ghost use Rattle.stored.specs.Numbers.{number_at, numbers, behind};
-ghost use Rattle.stored.specs.Reports.{report_text, report_line};
+ghost use Rattle.stored.specs.Reports.{report_text, report_line, Reported};
 
-use std::io::Write;
+use std::io::{Read, Write};
 use std::{fmt, io};
 
-// A sample, and the place from which on it is read.
+// A sample, and the place from which on it is read, as the definition has it.
 #[derive(Clone, Copy)]
 pub struct Sample<'a> {
     pub bytes: &'a [u8],
@@ -18,7 +18,8 @@ pub struct Sample<'a> {
 }
 
 impl<'a> Sample<'a> {
-    // The number at the place, which moves behind it. Of more than 19 digits the last 19 count.
+    // The number at the place, which moves behind it. Of more than 19 digits the last 19 count. The
+    // loop moves the sample's own place.
     #[tactic(auto, using(crate::proofs::Filling::reading_steps), unfolding(crate::specs::Numbers::number_at))]
     pub fn number(&mut self) -> u64
         ensures value { result ≡ (number_at self.old.bytes.now self.old.at).value }
@@ -58,7 +59,7 @@ impl<'a> Sample<'a> {
         }
     }
 
-    // A list in the front of a room: how many elements, and the number of each.
+    // A list in the front of a room. The sample has how many elements, and the number of each.
     pub fn list<'b, T: Copy, F: Fn(u64) -> T>(&mut self, room: &'b mut [T], element: F) -> &'b [T]
         requires { F.IsAlwaysCallable element }
         ensures elements { let count = number_at self.old.bytes.now self.old.at in
@@ -73,6 +74,13 @@ impl<'a> Sample<'a> {
         self.fill(list, element);
         list
     }
+}
+
+// A byte of a sample, by its number.
+pub fn byte(n: u64) -> u8
+    ensures { result ≡ n % 256 }
+{
+    (n % 256) as u8
 }
 
 // How many cases there were, and how many differ.
@@ -94,4 +102,18 @@ pub fn write_report<W: Write>(to: &mut W, r: Report) -> io::Result<()>
     ensures { OnOk result (Appends (W.contents to.old) (W.contents to.new) (report_line r)) }
 {
     writeln!(to, "{r}")
+}
+
+// The report of what an input holds, of which no more than the room is read.
+pub fn replay_input<R: Read, W: Write, F: Fn(&[u8]) -> Report>(
+    from: &mut R,
+    to: &mut W,
+    room: &mut [u8],
+    replay: F,
+) -> io::Result<()>
+    requires { F.IsAlwaysCallable replay }
+    ensures { OnOk result (Reported (W.contents to.old) (W.contents to.new)) }
+{
+    let n = input::read_full(from, room)?;
+    write_report(to, replay(&room[..n]))
 }

@@ -1,13 +1,13 @@
 #![tactic(auto)]
-// What tokens and openers are to the parser: each a flat `match`, proved equal to the tables of the definition. Kinds of events and containers
-// are the numbers that `reading` names.
+// What tokens and openers are to the parser: each a flat `match`, row by row the definition's
+// table. Kinds of events and containers are the numbers that `reading` names.
 ghost use Rattle.std.specs.Prelude.{◌≡◌};
 ghost use Rattle.reading.specs.Containers;
 ghost use Rattle.reading.specs.Events.{str};
 ghost use Rattle.reading.specs.Tokens;
 ghost use Rattle.reading.specs.Tokens.{closed_by, two_way, may_be_empty, is_single, closing_of, link_sort};
 ghost use Rattle.reading.specs.Tokens.{role_of, opens_a, is_run, is_format, is_caret};
-ghost use Rattle.tables.specs.Tables.{other_of, pair_of, link_of, number, sort_at};
+ghost use Rattle.tables.specs.Tables.{other_of, pair_of, link_of};
 
 use lex::{Delimiter, Kind, Sequence, Symbol};
 use reading::{Closer, DelimEventKind, Marks, Pair, Role, Sort, Target, container, kind};
@@ -87,24 +87,16 @@ pub fn unclosed(s: Sort) -> u32
 fn pair(first: u32, second: u32) -> DelimEventKind
     ensures { result ≡ pair_of first second }
 {
-    let p = Pair {
-        first: first,
-        second: second,
-    };
-    DelimEventKind::Pair(p)
+    DelimEventKind::Pair(Pair { first, second })
 }
 
 fn link(container: u32, inline: bool) -> DelimEventKind
     ensures { result ≡ link_of container inline }
 {
-    let t = Target {
-        container: container,
-        inline: inline,
-    };
-    DelimEventKind::Link(t)
+    DelimEventKind::Link(Target { container, inline })
 }
 
-// What the closing of an opener makes. Container k is entered by event 32 + k, and left by 64 + k.
+// What the closing of an opener makes.
 #[tactic(auto, unfolding(reading::specs::Tokens::closing_of))]
 pub fn closing_of(s: Sort) -> DelimEventKind
     ensures { result ≡ closing_of s }
@@ -137,28 +129,23 @@ pub fn closing_of(s: Sort) -> DelimEventKind
 pub fn link_sort(image: bool, inline: bool) -> Sort
     ensures { result ≡ link_sort image inline }
 {
-    if image {
-        if inline {
-            return Sort::InlineImage;
-        }
-        return Sort::ReferenceImage;
+    match (image, inline) {
+        (true, true) => Sort::InlineImage,
+        (true, false) => Sort::ReferenceImage,
+        (false, true) => Sort::InlineLink,
+        (false, false) => Sort::ReferenceLink,
     }
-    if inline {
-        return Sort::InlineLink;
-    }
-    Sort::ReferenceLink
 }
 
 // What opens `opens`, closes the mark `closes`, and alone is an event of the kind `alone`.
 fn other(opens: Option<Sort>, closes: Option<Closer>, alone: u32) -> Role
     ensures { result ≡ other_of opens closes alone }
 {
-    let m = Marks {
-        opens: opens,
-        closes: closes,
-        alone: alone,
-    };
-    Role::Other(m)
+    Role::Other(Marks {
+        opens,
+        closes,
+        alone,
+    })
 }
 
 // What opens and closes nothing.
@@ -290,14 +277,10 @@ pub fn is_run(r: Role) -> bool
 fn opens_a(c: Closer, r: Role) -> bool
     ensures { result ≡ opens_a c r }
 {
-    let Role::Other(m) = r else {
+    let Role::Other(Marks { opens: Some(s), .. }) = r else {
         return false;
     };
-    let o = m.opens;
-    match o {
-        Some(s) => closed_by(s) == c,
-        None => false,
-    }
+    closed_by(s) == c
 }
 
 // `{=`
@@ -314,7 +297,7 @@ pub fn is_caret(r: Role) -> bool
     opens_a(Closer::Caret, r)
 }
 
-// The bracket that a `]` takes along.
+// The bracket that a `]` takes along: `(`, of an inline destination, or `[`.
 #[tactic(auto, unfolding(reading::specs::Containers::takes))]
 pub fn takes(r: Role) -> Option<bool>
     ensures { result ≡ Containers.takes r }
@@ -323,61 +306,5 @@ pub fn takes(r: Role) -> Option<bool>
         Role::Bracket => Some(false),
         Role::Paren => Some(true),
         _ => None,
-    }
-}
-
-// The number of a sort in a room.
-#[tactic(auto, unfolding(crate::specs::Tables::number))]
-pub fn number_of(s: Sort) -> u32
-    ensures { result ≡ number s }
-{
-    match s {
-        Sort::Span => 0,
-        Sort::Image => 1,
-        Sort::Strong => 2,
-        Sort::BraceStrong => 3,
-        Sort::Emphasis => 4,
-        Sort::BraceEmphasis => 5,
-        Sort::Superscript => 6,
-        Sort::BraceSuperscript => 7,
-        Sort::Subscript => 8,
-        Sort::BraceSubscript => 9,
-        Sort::Mark => 10,
-        Sort::Delete => 11,
-        Sort::Insert => 12,
-        Sort::SingleQuoted => 13,
-        Sort::DoubleQuoted => 14,
-        Sort::ReferenceLink => 15,
-        Sort::ReferenceImage => 16,
-        Sort::InlineLink => 17,
-        Sort::InlineImage => 18,
-    }
-}
-
-// The sort of a number; of every number of 18 or more the last.
-#[tactic(auto, unfolding(crate::specs::Tables::sort_at, crate::specs::Tables::sorts))]
-pub fn sort_of(n: u32) -> Sort
-    ensures { result ≡ sort_at n }
-{
-    match n {
-        0 => Sort::Span,
-        1 => Sort::Image,
-        2 => Sort::Strong,
-        3 => Sort::BraceStrong,
-        4 => Sort::Emphasis,
-        5 => Sort::BraceEmphasis,
-        6 => Sort::Superscript,
-        7 => Sort::BraceSuperscript,
-        8 => Sort::Subscript,
-        9 => Sort::BraceSubscript,
-        10 => Sort::Mark,
-        11 => Sort::Delete,
-        12 => Sort::Insert,
-        13 => Sort::SingleQuoted,
-        14 => Sort::DoubleQuoted,
-        15 => Sort::ReferenceLink,
-        16 => Sort::ReferenceImage,
-        17 => Sort::InlineLink,
-        _ => Sort::InlineImage,
     }
 }

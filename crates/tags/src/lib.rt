@@ -1,5 +1,6 @@
 #![tactic(auto)]
 // What a container's enter and exit write, and an atom: the bytes that are the same in every sheet.
+// Three tables of other numbers and other bytes, a row a line, and so three functions.
 ghost use Rattle.output.specs.Written.{Adds};
 ghost use Rattle.markup.specs.Markup.{opening, closing, find, atom};
 

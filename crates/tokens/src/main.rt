@@ -29,7 +29,8 @@ fn first_line(text: &[u8]) -> &[u8] {
     }
 }
 
-// A token is at least one byte, so there are at most as many as bytes.
+// A token is at least one byte, so there are at most as many as bytes: the loop ends without a law
+// on the cursor.
 fn write_tokens<W: Write>(to: &mut W, line: &[u8]) -> io::Result<()> {
     let mut c = Cursor::new(0, false);
     for _ in 0..line.len() {

@@ -1,5 +1,6 @@
 #![tactic(auto)]
 // `./unpack`: the events of a packed list of standard input. A list has at most 65,536 bytes.
+// A program has one stored run: this one is of a list without a fault.
 use std::io;
 
 fn main(rt: HostRuntime) -> io::Result<()> {

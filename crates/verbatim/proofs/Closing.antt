@@ -9,14 +9,13 @@ use lib.ListN.{length, get_or}
 use Rattle.lex.specs.declared.lex.Token.{Token}
 use Rattle.reading.specs.declared.Event.{Event}
 use Rattle.reading.specs.declared.Home.{Home}
-use Rattle.reading.specs.declared.Last.{Last}
 use Rattle.reading.specs.declared.Verbatim.{Verbatim}
 use Rattle.reading.specs.Events.{becomes, exit_of, enter, raw_format, str}
-use Rattle.reading.specs.Machine.{View, Turn, amend, puts, put, no_str, with_inside}
+use Rattle.reading.specs.Machine.{View, Turn, amend, puts, put, with_inside}
 use Rattle.reading.specs.Tokens.{role_of, is_run}
 use Rattle.reading.specs.Verbatim.{nothing, content, ended_at}
 use Rattle.rooms.specs.declared.Parser.{Parser}
-use Rattle.rooms.specs.declared.Span.{Span}
+use Rattle.rooms.specs.declared.span.Span.{Span}
 use Rattle.rooms.specs.Records.{event_at}
 use Rattle.rooms.specs.Standing.{here}
 use Rattle.rooms.specs.Steps.{state, staying, amending, cutting, Queued}
@@ -29,11 +28,11 @@ opened-low w p h = omega (arith, h.low, h.high)
 
 -- the exit behind the first n events
 pub exits-turn : (w : Verbatim) (p r t : Parser) → w.event < p.at.events → (n a b : ℕ) (e : Event) → e ≡ exit_of (event_at p.queue.now w.event) a b
-    → (none : Last) → none ≡ no_str → Queued p r (staying p (cutting n)) → Queued r t (staying r (puts (e ∷ []) none))
+    → Queued p r (staying p (cutting n)) → Queued r t (staying r (puts (e ∷ []) None))
     → record { cursor = t.at.cursor; state = with_inside None (state t) } ≡ staying p (headed w n a b) (state p)
-exits-turn w p r t low n a b e ise none isn c d =
+exits-turn w p r t low n a b e ise c d =
     ap (λ (x : Turn). record { cursor = x.cursor; state = with_inside None x.state }) (queued-on p r t _ _ c d).changed.same
-    ∙ rw (ise, isn, rows_at event_at p.at.events p.queue.now w.event nothing low)
+    ∙ rw (ise, rows_at event_at p.at.events p.queue.now w.event nothing low)
 
 -- the event that was changed
 amend-at : (f : Event → Event) (i : ℕ) (es : List Event) (d : Event) → i < length es → get_or (amend f i es) i d ≡ f (get_or es i d)

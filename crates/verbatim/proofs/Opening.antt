@@ -1,5 +1,5 @@
 -- A run that opens, and the dollars before it.
-use Rattle.std.specs.Prelude.{Option, Some, true, false}
+use Rattle.std.specs.Prelude.{None, Option, Some, true, false}
 use Prim.Native.Nat.{ℕ, suc, ◌+◌, ◌-◌, ◌≤◌, ◌<◌}
 use mathlib.Core.Path.{◌≡◌, refl, sym, ap, ◌∙◌}
 use mathlib.Core.List.{List, [], ◌∷◌}
@@ -8,16 +8,15 @@ use lib.Dec.{eqb}
 use lib.ListN.{length}
 use Rattle.reading.specs.declared.Event.{Event}
 use Rattle.reading.specs.declared.Home.{Home}
-use Rattle.reading.specs.declared.Last.{Last}
 use Rattle.reading.specs.declared.Place.{Place}
 use Rattle.reading.specs.declared.Verbatim.{Verbatim}
 use Rattle.reading.specs.Events.{place, homed, nowhere, shorter}
-use Rattle.reading.specs.Machine.{View, Turn, puts, no_str, with_queue, with_inside}
+use Rattle.reading.specs.Machine.{View, Turn, puts, with_queue, with_inside}
 use Rattle.reading.specs.Verbatim.{flagged, taken, opened_as, opens_verbatim}
 use Rattle.reading.proofs.Choose.{choose}
 use Rattle.reading.proofs.Ends.{amend-last-at, shorter-none}
 use Rattle.rooms.specs.declared.Parser.{Parser}
-use Rattle.rooms.specs.declared.Span.{Span}
+use Rattle.rooms.specs.declared.span.Span.{Span}
 use Rattle.rooms.specs.Records.{event_at}
 use Rattle.rooms.specs.Standing.{here}
 use Rattle.rooms.specs.Steps.{state, staying, amending, Queued}
@@ -45,9 +44,9 @@ opened-small n =
 -- a run opens: the dollars leave the queue, the enter is put behind it, and the lexer goes on in verbatim
 module _ (v : View) (h : Span) (p r t : Parser) (at to : Place) (isat : at ≡ place (v.base + h.from)) (isto : to ≡ place (v.base + h.to))
     (d : ℕ) (isd : d ≡ taken p.at.last at.0) (k : ℕ) (isk : k ≡ opened_as d) (home : Home) (ish : home ≡ nowhere)
-    (e : Event) (ise : e ≡ homed (32 + k) home (at.0 - d) to.0) (none : Last) (isn : none ≡ no_str)
-    (c : Queued p r (staying p (leaving d))) (g : Queued r t (staying r (puts (e ∷ []) none))) where
-  pub opens-put : Queued p t (staying p (λ s. puts (e ∷ []) none (leaving d s)))
+    (e : Event) (ise : e ≡ homed (32 + k) home (at.0 - d) to.0)
+    (c : Queued p r (staying p (leaving d))) (g : Queued r t (staying r (puts (e ∷ []) None))) where
+  pub opens-put : Queued p t (staying p (λ s. puts (e ∷ []) None (leaving d s)))
   opens-put = queued-on p r t _ _ c g
 
   pub opens-turn : record {
@@ -57,7 +56,7 @@ module _ (v : View) (h : Span) (p r t : Parser) (at to : Place) (isat : at ≡ p
       ≡ opens_verbatim v (here h p.at) (state p)
   opens-turn =
       ap (λ (x : Turn). record { cursor = flagged true x.cursor; state = with_inside w x.state }) opens-put.changed.same
-      ∙ rw (isn, ise, ish, isk, isto, these, isat, long, keep)
+      ∙ rw (ise, ish, isk, isto, these, isat, long, keep)
     where
       w : Option Verbatim
       w = Some record { event = p.at.events; len = h.to - h.from; seen = false; run = false; keep = p.at.events + 1; here = true }

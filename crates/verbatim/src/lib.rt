@@ -18,7 +18,9 @@ use lex::{Cursor, Token};
 use reading::{Event, Last, Place, Verbatim, container, kind};
 use rooms::{Parser, Span, View};
 
-// What an event is by its kind: an enter or an exit, with its container, or neither.
+// What an event is by its kind: an enter or an exit, with its container, or neither. `let .. else`
+// takes the Enter case out of it, which is the form that document 01 names (docs/DECISIONS.md,
+// "Forms").
 #[derive(Clone, Copy)]
 enum EventKind {
     Atom(u32),
@@ -26,14 +28,29 @@ enum EventKind {
     Exit(u32),
 }
 
-// On the lines behind the opener's, whether the lexer is in verbatim.
+impl From<u32> for EventKind {
+    ghost from_gives = { λ kind e. e ≡ kind_of kind };
+
+    #[tactic(auto, unfolding(crate::specs::Opened::kind_of))]
+    fn from(kind: u32) -> EventKind {
+        match kind {
+            k if k < kind::ENTER => EventKind::Atom(k),
+            k if k < kind::EXIT => EventKind::Enter(k - kind::ENTER),
+            k => EventKind::Exit(k - kind::EXIT),
+        }
+    }
+}
+
+// On the lines behind the opener's, whether the lexer is in verbatim. A reading is a number, as C
+// lends it, and the rules are of all numbers.
 fn later(reading: u32) -> bool
     ensures { result ≡ (rules_of reading).later }
 {
     reading != 0
 }
 
-// How the token behind a closing run is read, by whether the line is the opener's own.
+// How the token behind a closing run is read, by whether the line is the opener's own: a rule of
+// the reading, which is the same in both.
 fn after(reading: u32, own: bool) -> bool
     ensures { result ≡ (rules_of reading).after own }
 {
@@ -49,13 +66,13 @@ fn flagged(c: Cursor, verbatim: bool) -> Cursor
 
 // How many dollars the run that begins at a place takes.
 #[tactic(auto, unfolding(reading::specs::Verbatim::taken))]
-fn taken(l: Last, at: Place) -> u32
-    ensures { result ≡ spec.taken l at.0 }
+fn taken(last: Option<Last>, at: Place) -> u32
+    ensures { result ≡ spec.taken last at.0 }
 {
-    if l.end.0 == at.0 {
-        return l.dollars;
+    match last {
+        Some(l) if l.end.0 == at.0 => l.dollars,
+        _ => 0,
     }
-    0
 }
 
 // Verbatim, inline math, or display math.
@@ -84,7 +101,6 @@ fn leave(p: &mut Parser, dollars: u32)
 
 // A run of backticks opens. Dollars directly before it leave their Str and join the enter's span.
 pub fn opens_verbatim(p: &mut Parser, v: &View, h: Span)
-    requires from_le_to { h.from ≤ h.to }
     requires to_bound { v.now.base + h.to ≤ largest }
     requires room { Room 1 p.old }
     requires dollars { Dollars (spec.taken p.old.at.last (v.now.base + h.from)) p.old.at.events p.old.queue.now }
@@ -101,7 +117,7 @@ pub fn opens_verbatim(p: &mut Parser, v: &View, h: Span)
         v.place(h.to),
         atoms::nowhere(),
     );
-    p.push(e, atoms::no_str());
+    p.push(e, None);
     p.at.cursor = flagged(p.at.cursor, true);
     p.at.inside = Some(Verbatim {
         event: n,
@@ -113,21 +129,8 @@ pub fn opens_verbatim(p: &mut Parser, v: &View, h: Span)
     });
 }
 
-// An event's kind, taken apart.
-#[tactic(auto, unfolding(crate::specs::Opened::kind_of))]
-fn kind_of(kind: u32) -> EventKind
-    ensures { result ≡ kind_of kind }
-{
-    if kind < kind::ENTER {
-        return EventKind::Atom(kind);
-    }
-    if kind < kind::EXIT {
-        return EventKind::Enter(kind - kind::ENTER);
-    }
-    EventKind::Exit(kind - kind::EXIT)
-}
-
 // The event at the opener's place decides the exit.
+#[tactic(auto, using(std::proofs::lemmas::Bool::Decides::nat_tests), unfolding(crate::specs::Opened::kind_of))]
 fn exit_of(p: &Parser, w: Verbatim, start: Place, end: Place) -> Event
     requires queue_numbers_in_bounds { w.event * queue_numbers + queue_numbers ≤ length p.now.queue.now }
     requires enter_from_bound { enter_from ≤ (event_at p.now.queue.now w.event).kind }
@@ -135,13 +138,13 @@ fn exit_of(p: &Parser, w: Verbatim, start: Place, end: Place) -> Event
     ensures { result ≡ exit_of (event_at p.now.queue.now w.event) start.0 end.0 }
 {
     let e = p.event_at(w.event);
-    let EventKind::Enter(k) = kind_of(e.kind) else {
+    let EventKind::Enter(k) = EventKind::from(e.kind) else {
         return e;
     };
     Event {
         kind: kind::EXIT + k,
-        start: start,
-        end: end,
+        start,
+        end,
         ..e
     }
 }
@@ -155,11 +158,12 @@ fn exits(p: &mut Parser, w: Verbatim, n: usize, start: Place, end: Place)
 {
     let e = exit_of(p, w, start, end);
     p.cut(n);
-    p.push(e, atoms::no_str());
+    p.push(e, None);
     p.at.inside = None;
 }
 
-// How many events are kept on closing: the blanks behind a backtick run that is the last content are dropped.
+// How many events are kept on closing: the blanks behind a backtick run that is the last content
+// are dropped.
 #[tactic(auto, unfolding(reading::specs::Verbatim::kept))]
 fn kept(p: &Parser, w: Verbatim) -> usize
     ensures by_index { w.keep ≤ p.now.at.events → take result (state p.now).queue ≡ spec.kept w (state p.now).queue }
@@ -187,7 +191,6 @@ fn format_ahead(v: &View, to: usize, next: Option<Token>) -> Option<usize>
 // A run closes, and no raw format follows.
 #[tactic(auto, unfolding(reading::specs::Verbatim::closed_with))]
 fn closes_plain(p: &mut Parser, v: &View, h: Span, c: Cursor, w: Verbatim)
-    requires from_le_to { h.from ≤ h.to }
     requires to_bound { v.now.base + h.to ≤ largest }
     requires opened { Opened w p.old }
     requires room { Room 1 p.old }
@@ -198,10 +201,10 @@ fn closes_plain(p: &mut Parser, v: &View, h: Span, c: Cursor, w: Verbatim)
     p.at.cursor = flagged(c, false);
 }
 
-// A run closes with a raw format of n bytes behind it: the verbatim becomes a raw inline, and the exit goes to behind its `}`.
+// A run closes with a raw format of n bytes behind it: the verbatim becomes a raw inline, and the
+// exit goes to behind its `}`.
 #[tactic(auto, unfolding(reading::specs::Verbatim::closed_with))]
 fn closes_raw(p: &mut Parser, v: &View, h: Span, n: usize, w: Verbatim)
-    requires from_le_to { h.from ≤ h.to }
     requires n_bound { v.now.base + h.to + 2 + n + 1 ≤ largest }
     requires opened { Opened w p.old }
     requires room { Room 1 p.old }
@@ -240,10 +243,7 @@ fn all_blank(s: &[u8]) -> bool
 fn another_run(w: Verbatim, next: Option<Token>) -> bool
     ensures { result ≡ spec.another_run w next }
 {
-    let Some(t) = next else {
-        return false;
-    };
-    tables::is_run(tables::role_of(t.kind)) & (t.len != w.len)
+    next.is_some_and(|t| tables::is_run(tables::role_of(t.kind)) & (t.len != w.len))
 }
 
 // A token that is not blank: seen, and whether it is a run.
@@ -294,8 +294,7 @@ pub fn in_verbatim(p: &mut Parser, v: &View, h: Span, t: Token, w: Verbatim, rea
         closes_verbatim(p, v, h, w, reading);
         return;
     }
-    let line = v.bytes;
-    if all_blank(&line[h.from..h.to]) {
+    if all_blank(&v.bytes[h.from..h.to]) {
         blank_content(p, v, h, w);
         return;
     }

@@ -35,7 +35,7 @@ module _ (events : List ℕ) (n i : ℕ) (r : Option Place) (x : first_barred (d
   barred-none h = ap first_barred (sym (listed-end events n i h)) ∙ x
 
 -- the first n records of a room are a room of n events
-handed : (n : ℕ) (room : List ℕ) → n * event_numbers ≤ length room
+pub handed : (n : ℕ) (room : List ℕ) → n * event_numbers ≤ length room
     → listed (length (take (n * event_numbers) room) / event_numbers) (take (n * event_numbers) room) ≡ listed n room
 handed n room h =
     ap (λ (k : ℕ). listed k front) count
@@ -81,10 +81,8 @@ module _ (text events : List ℕ) (a : Answer) (rooms : Rooms) (out : List ℕ) 
   unfolding behind
   concluded-early n = grind (arith, ne_eqb)
 
-  module _ (x : Listed a text events) (z : a.code ≡ 0) (out' : List ℕ) (size : length out' ≡ length out) where
-    abbrev those : List Event
-    those = let front = take (a.events * event_numbers) events in listed (length front / event_numbers) front
-
+  module _ (x : Listed a text events) (z : a.code ≡ 0) (those : List Event) (are : those ≡ es) (out' : List ℕ)
+      (size : length out' ≡ length out) where
     abbrev Asked : Result ℕ Refusal → List Event → Type 0
     Asked r l = shown r out' ≡ shown_as (first_barred l) (fragment text l) (length out)
 
@@ -92,11 +90,11 @@ module _ (text events : List ℕ) (a : Answer) (rooms : Rooms) (out : List ℕ) 
         → ((out₂ : List ℕ) → out₂ ≡ kept n out' → fragmented_of (acceptance a n) rooms out₂ ≡ comes) × (n < 2 ^ 32)
     unfolding behind
     concluded-ok n w s =
-        let j = judged-ok (first_barred es) (fragment text es) out out' n rooms a size w (subst (Asked (Ok n)) (handed a.events events (x.room z)) s) in
+        let j = judged-ok (first_barred es) (fragment text es) out out' n rooms a size w (subst (Asked (Ok n)) are s) in
         (λ out₂ k. ap (λ (o : List ℕ). fragmented_of (acceptance a n) rooms o) k ∙ grind (arith, eq-eqb, j.0), omega (arith, j.1, x.few z))
 
     pub concluded-err : (r : Refusal) → Asked (Err r) those → fragmented_of (answer_of r) (cleared rooms) (zeros out') ≡ comes
     unfolding behind
     concluded-err r s =
-        let j = judged-err (first_barred es) (fragment text es) out out' r rooms (record { answer = a; rooms = rooms }) size (subst (Asked (Err r)) (handed a.events events (x.room z)) s) in
+        let j = judged-err (first_barred es) (fragment text es) out out' r rooms (record { answer = a; rooms = rooms }) size (subst (Asked (Err r)) are s) in
         grind (arith, eq-eqb, j)

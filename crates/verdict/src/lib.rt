@@ -1,17 +1,18 @@
 #![tactic(auto)]
 // What comes of the reader's answer: questions 10 and 11, and what the call for a fragment leaves.
-ghost use Rattle.std.specs.Prelude.{◌≡◌, ◌≤◌, ◌/◌, length, IfOk};
+ghost use Rattle.std.specs.Prelude.{◌≡◌, ◌≤◌, ◌*◌, ◌/◌, length, IfOk};
 ghost use Rattle.reading.specs.Events.{event_numbers};
-ghost use Rattle.outcome.specs.Outcomes.{rooms_of, outcome_of};
+ghost use Rattle.outcome.specs.Lending.{held, left_by, Lent};
 ghost use Rattle.listing.specs.Listing.{listed};
 ghost use Rattle.markup.specs.Markup.{fragment};
 ghost use Rattle.verdict.specs.Fragments.{barred as barred_of, first_barred, refusal as refusal_of, fragmented_of, behind};
 ghost use Rattle.verdict.specs.Judging.{shown, shown_as, code_of, place_of, answer_of, Listed};
 
+use outcome::Rooms;
 use output::OUTPUT_ROOM;
 use reading::{Answer, EVENT_NUMBERS, Place, container, kind};
 
-// The refusal of a link, an image, an autolink or a footnote reference.
+// The refusal of a link, an image, an autolink or a footnote reference, in a number for C.
 pub const LINKED: u32 = 10;
 
 const ENTER_REFERENCE_LINK: u32 = kind::ENTER + container::REFERENCE_LINK;
@@ -27,7 +28,8 @@ pub struct FragmentAnswer {
     pub length: u32,
 }
 
-// Why there is no fragment: such a one begins there; or the output room is too short.
+// Why there is no fragment: a link, an image, an autolink or a footnote reference begins at a
+// place; or the output room is too short.
 #[derive(Clone, Copy)]
 enum Refusal {
     Linked(Place),
@@ -112,26 +114,27 @@ fn show(text: &[u8], events: &[u32], out: &mut [u8]) -> Result<usize, Refusal>
     }
 }
 
+// The room of the events that were handed out.
+#[tactic(auto, using(crate::proofs::Concluding::handed))]
+fn handed<'r>(rooms: &'r Rooms, count: usize) -> &'r [u32]
+    requires { count * event_numbers ≤ length rooms.now.events.now }
+    ensures { listed (length result.now / event_numbers) result.now ≡ listed count rooms.now.events.now }
+{
+    &rooms.events[..count * EVENT_NUMBERS]
+}
+
 // What comes of the reader's answer: the fragment of the events that it handed out, or a refusal.
-pub fn conclude(
-    a: Answer,
-    text: &[u8],
-    events: &mut [u32],
-    queue: &mut [u32],
-    openers: &mut [u32],
-    labels: &mut [u8],
-    out: &mut [u8],
-) -> FragmentAnswer
-    requires { Listed a text.now events.old }
-    ensures { fragmented_of result (rooms_of events.new queue.new openers.new labels.new) out.new ≡ behind
-        text.now (listed a.events events.old) (rooms_of events.old queue.old openers.old labels.old) (outcome_of a events.old queue.old openers.old labels.old) out.old }
+pub fn conclude(a: Answer, text: &[u8], rooms: &mut Rooms, out: &mut [u8]) -> FragmentAnswer
+    requires { Listed a text.now rooms.old.events.now }
+    ensures value { fragmented_of result (held rooms.new) out.new ≡ behind
+        text.now (listed a.events rooms.old.events.now) (held rooms.old) (left_by a rooms.old) out.old }
+    ensures lent { Lent rooms.old rooms.new }
 {
     if a.code != 0 {
         out.fill(0);
         return refused(a.code, a.place);
     }
-    let handed = a.events as usize * EVENT_NUMBERS;
-    match show(text, &events[..handed], out) {
+    match show(text, handed(rooms, a.events as usize), out) {
         Ok(n) => {
             out[n..].fill(0);
             FragmentAnswer {
@@ -144,7 +147,7 @@ pub fn conclude(
         }
         Err(r) => {
             out.fill(0);
-            outcome::clear_all(events, queue, openers, labels);
+            rooms.clear();
             FragmentAnswer::from(r)
         }
     }

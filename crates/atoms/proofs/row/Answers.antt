@@ -8,4 +8,4 @@ loop-init c = begun-first c.args.v.now.base c.args.kind c.args.w c.args.i c.args
 
 pub loop-preserved : goal.loop-preserved
 loop-preserved c = begun-more c.args.v.now.base c.args.kind c.args.w c.args.i c.args.p.now c.loop.p c.loop.at c.loop.counter c.loop.invariant
-    c.homed.result (search rules) _ c.no_str.ensures _ c.push.ensures.queued c.push.ensures.count
+    c.homed.result (search rules) _ c.push.ensures.queued c.push.ensures.count

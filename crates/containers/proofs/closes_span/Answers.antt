@@ -20,7 +20,7 @@ takes_along-requires-clause-fits c =
     let at = c.args.p.now.at.cursor in
     let is : (peek_of line at).token ≡ Some c.in-Some.t = search rules in
     let few = span-within line at c.args.h.to c.in-Some.t c.requires.ready.sound c.requires.ready.place is in
-    record { ordered = omega (arith, few); within = few.1; small = c.requires.ready.small }
+    record { within = few.1; small = c.requires.ready.small }
 
 pub takes_along-requires-clause-room : goal.takes_along-requires-clause-room
 takes_along-requires-clause-room c =

@@ -1,7 +1,6 @@
 -- `dash::split_hyphens` meets its contract: each arm of the `match` is its case of `by-six`.
-use Prim.Native.Nat.{◌%◌}
-use mathlib.Core.Logic.{◌⊎◌, inl, inr, ⊎_elim}
-use mathlib.Core.Path.{◌≡◌, ◌∙◌}
+use mathlib.Core.Logic.{⊎_elim}
+use mathlib.Core.Path.{◌∙◌}
 use borrow.Author.Rules.{rules}
 use Rattle.dash.specs.BySix.{six_cases, by_six}
 use Rattle.dash.proofs.Splits.{split-none, by-six}

@@ -1,25 +1,25 @@
 -- `drain::drain` meets its contract: `Head` of `proofs.Steps` holds at the loop's head.
-use borrow.Author.Rules.{rules}
-use Rattle.drain.proofs.Steps.{head_first, head-next, head-full, head-last, drained-answer}
+use Rattle.std.proofs.Common.{rules, arith, refl, []}
+use Rattle.drain.proofs.Steps.{puts_on, next, last, ends-full, ends-all}
 use Rattle.drain.proofs.drain.Goals as goal
 
-pub loop-i-init : goal.loop-i-init
-loop-i-init c = head_first c.args.queue.now c.args.n c.args.room.now
-
-pub returns-in_err-h : goal.returns-in_err-h
-returns-in_err-h c = let both = drained-answer _ c.args.room.now c.drain_event.new.room _
-    (head-full c.args.queue.now c.args.n c.args.room.now c.loop-i.room c.loop-i.h c.loop-i.i c.loop-i.invariant
-    c.loop-i-test.true c.event_at.result c.event_at.ensures c.drain_event.result c.drain_event.new.room
-    c.drain_event.ensures c.in_err-h.was) in
-    rw c.from_residual.ensures (record { value = both.0; room_after = both.1 })
-
 pub loop-i-preserved : goal.loop-i-preserved
-loop-i-preserved c = head-next c.args.queue.now c.args.n c.args.room.now c.loop-i.room c.loop-i.h c.loop-i.i
-    c.loop-i.invariant c.loop-i-test.true c.event_at.result c.event_at.ensures c.drain_event.result
-    c.drain_event.new.room c.drain_event.ensures c.in_ok-h.h c.in_ok-h.was (search rules)
+loop-i-preserved c = record { inside = omega arith; puts = next c.loop-i.invariant c.loop-i-test.true c.event_at.ensures c.in_ok-event.ensures }
+
+pub returns-in_err-event : goal.returns-in_err-event
+returns-in_err-event c =
+    let p = next c.loop-i.invariant c.loop-i-test.true c.event_at.ensures c.in_err-event.ensures in
+    let both = ends-full refl p in
+    rw c.from_residual.ensures (search (rules, p, both))
+
+pub returns-in_err-flush : goal.returns-in_err-flush
+returns-in_err-flush c =
+    let p = puts_on (last c.loop-i.invariant c.loop-i-test.false) (c.in_err-flush.ensures []) in
+    let both = ends-full refl p in
+    rw c.from_residual-in_err-flush.ensures (search (rules, p, both))
 
 pub returns : goal.returns
-returns c = let both = drained-answer _ c.args.room.now c.flush.new.room c.flush.result
-    (head-last c.args.queue.now c.args.n c.args.room.now c.loop-i.room c.loop-i.h c.loop-i.i c.loop-i.invariant
-    c.loop-i-test.false c.flush.result c.flush.new.room c.flush.ensures) in
-    record { value = both.0; room_after = both.1 }
+returns c =
+    let p = puts_on (last c.loop-i.invariant c.loop-i-test.false) (c.in_ok-flush.ensures []) in
+    let both = ends-all refl p in
+    search (rules, p, both)

@@ -3,4 +3,4 @@ use Rattle.drain.proofs.Steps.{Head}
 use Rattle.drain.proofs.drain.Given as goal
 
 abbrev pub invariant-loop-i : goal.invariant-loop-i
-invariant-loop-i l = Head l.queue l.n l.initial.room l.room l.h l.i
+invariant-loop-i l = Head l.queue l.n l.initial.held l.held l.i

@@ -15,42 +15,42 @@ returns-in_default c =
 pub overflow_add-h : goal.overflow_add-h
 overflow_add-h c =
     let a = c.args in
-    omega (arith, event-within a.text.now a.reading (viewed a.v.now) a.p.now c.requires _ c.next_token-lexed.ensures _ c.in-Some.is, c.requires.small)
+    omega (arith, event-within a.text.now a.reading (viewed a.v.now) a.p.now c.requires _ c.next_token-lexed.ensures _ c.in-Some.is (omega arith), c.requires.small)
 
 pub in_verbatim-requires-clause-fits : goal.in_verbatim-requires-clause-fits
 in_verbatim-requires-clause-fits c =
     let a = c.args in
-    event-fits a.text.now a.reading (viewed a.v.now) a.p.now c.requires _ c.next_token-lexed.ensures _ c.in-Some.is
+    event-fits a.text.now a.reading (viewed a.v.now) a.p.now c.requires _ c.next_token-lexed.ensures _ c.in-Some.is _
 
 pub in_verbatim-requires-clause-opened : goal.in_verbatim-requires-clause-opened
 in_verbatim-requires-clause-opened c =
     let a = c.args in
-    event-opened a.text.now a.reading (viewed a.v.now) a.p.now c.requires _ c.next_token-lexed.ensures _ c.in-Some.is
+    event-opened a.text.now a.reading (viewed a.v.now) a.p.now c.requires _ c.next_token-lexed.ensures _ c.in-Some.is (omega arith)
     _ c.in-Some-inside.is _ refl refl
 
 pub in_verbatim-requires-clause-room : goal.in_verbatim-requires-clause-room
 in_verbatim-requires-clause-room c =
     let a = c.args in
-    event-room a.text.now a.reading (viewed a.v.now) a.p.now c.requires _ c.next_token-lexed.ensures _ c.in-Some.is
+    event-room a.text.now a.reading (viewed a.v.now) a.p.now c.requires _ c.next_token-lexed.ensures _ c.in-Some.is (omega arith)
 
 pub put-requires-clause-fits : goal.put-requires-clause-fits
 put-requires-clause-fits c =
     let a = c.args in
-    event-fits a.text.now a.reading (viewed a.v.now) a.p.now c.requires _ c.next_token-lexed.ensures _ c.in-Some.is
+    event-fits a.text.now a.reading (viewed a.v.now) a.p.now c.requires _ c.next_token-lexed.ensures _ c.in-Some.is _
 
 pub put-requires-clause-room : goal.put-requires-clause-room
 put-requires-clause-room c =
     let a = c.args in
-    event-room a.text.now a.reading (viewed a.v.now) a.p.now c.requires _ c.next_token-lexed.ensures _ c.in-Some.is
+    event-room a.text.now a.reading (viewed a.v.now) a.p.now c.requires _ c.next_token-lexed.ensures _ c.in-Some.is (omega arith)
 
 pub outside-requires : goal.outside-requires
 outside-requires c =
     let a = c.args in
     record {
-      ready = event-ready a.text.now a.reading (viewed a.v.now) a.p.now c.requires _ c.next_token-lexed.ensures _ c.in-Some.is
+      ready = event-ready a.text.now a.reading (viewed a.v.now) a.p.now c.requires _ c.next_token-lexed.ensures _ c.in-Some.is _
           _ refl refl refl refl refl;
       label_room = record { room = c.requires.label_room; links = c.requires.links };
-      ended = event-ended a.text.now a.reading (viewed a.v.now) a.p.now c.requires _ c.next_token-lexed.ensures _ c.in-Some.is
+      ended = event-ended a.text.now a.reading (viewed a.v.now) a.p.now c.requires _ c.next_token-lexed.ensures _ c.in-Some.is (omega arith)
           c.in-None.is _ refl refl refl;
     }
 
@@ -58,16 +58,16 @@ pub returns-in-Some-inside : goal.returns-in-Some-inside
 returns-in-Some-inside c =
     let a = c.args in
     stepped-from a.p.now _ _ _ _ (changed-stepped _ _ _ c.in_verbatim.ensures.changed) refl refl refl
-    (event-verbatim a.text.now a.reading (viewed a.v.now) a.p.now c.requires _ c.next_token-lexed.ensures _ c.in-Some.is _ c.in-Some-inside.is)
+    (event-verbatim a.text.now a.reading (viewed a.v.now) a.p.now c.requires _ c.next_token-lexed.ensures _ c.in-Some.is (omega arith) _ c.in-Some-inside.is)
 
 pub returns-in-Text : goal.returns-in-Text
 returns-in-Text c =
     let a = c.args in
     stepped-from a.p.now _ _ _ _ (changed-stepped _ _ _ c.put.ensures.queued.changed) refl refl refl
-    (event-text a.text.now a.reading (viewed a.v.now) a.p.now c.requires _ c.next_token-lexed.ensures _ c.in-Some.is c.in-None.is c.in-Text.is)
+    (event-text a.text.now a.reading (viewed a.v.now) a.p.now c.requires _ c.next_token-lexed.ensures _ c.in-Some.is (omega arith) c.in-None.is c.in-Text.is)
 
 pub returns-in_default-kind : goal.returns-in_default-kind
 returns-in_default-kind c =
     let a = c.args in
     stepped-from a.p.now _ _ _ _ (c.outside.ensures (rules_of a.reading)) refl refl refl
-    (event-outside a.text.now a.reading (viewed a.v.now) a.p.now c.requires _ c.next_token-lexed.ensures _ c.in-Some.is c.in-None.is _ c.role_of.ensures)
+    (event-outside a.text.now a.reading (viewed a.v.now) a.p.now c.requires _ c.next_token-lexed.ensures _ c.in-Some.is (omega arith) c.in-None.is _ c.role_of.ensures)

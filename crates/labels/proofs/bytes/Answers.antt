@@ -1,53 +1,27 @@
--- `labels::bytes` meets its contract. At the loop's head the bytes from i on are left to write; the measure is how many these are.
-use mathlib.Core.Path.{◌∙◌}
-use mathlib.Core.List.{◌++◌}
-use native.Mathlib.Omega.{arith}
-use borrow.Author.Tests.{not-true, not-false}
-use Rattle.reading.specs.Labels.{pieces, separator}
-use Rattle.labels.proofs.Appending.{filled_none, filled-stuck, filled-turn, filled-last}
+-- `labels::bytes`: a byte that is written, and the end of the bytes.
+use Rattle.std.proofs.Common.{subst, sym, ◌∙◌}
+use lib.ListN.{drop_of_length-le}
+use Rattle.output.proofs.Appending.{Left, left_less, left-full, left-none}
+use Rattle.reading.specs.Labels.{pieces}
+use Rattle.labels.specs.Building.{behind}
+use Rattle.labels.proofs.Loops.{given-next, behind-next}
 use Rattle.labels.proofs.bytes.Goals as goal
 
-pub loop-i-init : goal.loop-i-init
-loop-i-init c = (
-  c.requires.fits_value,
-  filled_none c.args.labels.now c.args.entry.used (λ y. pieces (separator c.args.inline) c.args.entry.begun
-      c.args.entry.apart (c.args.s.now ++ y)) c.args.entry.fits c.requires.used_in_bounds c.requires.fits_value,
-)
+pub returns-in_err-byte-clause-bytes : goal.returns-in_err-byte-clause-bytes
+returns-in_err-byte-clause-bytes c =
+    rw c.from_residual.ensures (left-full _ _ _ (subst (Left _ _ _) (given-next _ _ _ c.loop-b-test.true) c.loop-b.invariant.0) c.in_err-byte.ensures.bytes)
 
-pub byte-j-requires : goal.byte-j-requires
-byte-j-requires c = record {
-  used_in_bounds = omega (
-    arith,
-    c.loop-i.invariant.1.room,
-    c.loop-i.invariant.1.length_kept,
-  );
-  fits_value = c.loop-i.invariant.0;
-}
+pub loop-b-preserved : goal.loop-b-preserved
+loop-b-preserved c =
+    rw c.in_ok-byte.ensures.joint (
+      left_less _ _ _ (subst (Left _ _ _) (given-next _ _ _ c.loop-b-test.true) c.loop-b.invariant.0) c.in_ok-byte.ensures.bytes,
+      sym (behind-next _ _ _ c.loop-b-test.true) ∙ c.loop-b.invariant.1,
+    )
 
-pub shape_of-labels-then-not-j : goal.shape_of-labels-then-not-j
-shape_of-labels-then-not-j c = c.byte-j.ensures.length_kept ∙ c.loop-i.invariant.1.length_kept
+pub returns-clause-bytes : goal.returns-clause-bytes
+unfolding pieces
+returns-clause-bytes c = left-none (rw (drop_of_length-le c.args.s.now c.loop-b-test.false) at c.loop-b.invariant.0)
 
-pub returns-then-not-j : goal.returns-then-not-j
-returns-then-not-j c = filled-stuck
-    (filled-turn c.args.s.now c.loop-i.i (λ y. pieces (separator c.args.inline) c.loop-i.j.begun c.loop-i.j.apart y)
-    c.loop-i.invariant.1
-    (λ y. pieces (separator c.args.inline) c.byte-j.result.begun c.byte-j.result.apart y) c.loop-i-test.true
-    c.loop-i.invariant.0 c.byte-j.ensures)
-    (λ y. pieces (separator c.args.inline) c.byte-j.result.begun c.byte-j.result.apart y) _
-    (not-true _ c.if-not-j.true) (not-true _ c.if-not-j.true)
-
-pub loop-i-preserved : goal.loop-i-preserved
-loop-i-preserved c = (
-  not-false _ c.if-not-j.false,
-  filled-turn c.args.s.now c.loop-i.i (λ y. pieces (separator c.args.inline) c.loop-i.j.begun c.loop-i.j.apart y)
-      c.loop-i.invariant.1
-      (λ y. pieces (separator c.args.inline) c.byte-j.result.begun c.byte-j.result.apart y) c.loop-i-test.true
-      c.loop-i.invariant.0 c.byte-j.ensures,
-)
-
-pub shape_of-labels : goal.shape_of-labels
-shape_of-labels c = c.loop-i.invariant.1.length_kept
-
-pub returns : goal.returns
-returns c = filled-last c.args.s.now c.loop-i.i (λ y. pieces (separator c.args.inline) c.loop-i.j.begun
-    c.loop-i.j.apart y) c.loop-i.invariant.1 c.loop-i-test.false
+pub returns-clause-joint : goal.returns-clause-joint
+unfolding behind
+returns-clause-joint c = rw (drop_of_length-le c.args.s.now c.loop-b-test.false) at c.loop-b.invariant.1

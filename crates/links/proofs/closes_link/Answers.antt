@@ -1,5 +1,5 @@
 -- `links::closes_link` meets its contract, by the laws of `Linking`.
-use mathlib.Core.Path.{refl, ◌∙◌}
+use mathlib.Core.Path.{refl}
 use Rattle.std.proofs.Common.{rules}
 use Rattle.rooms.specs.Standing.{viewed}
 use Rattle.rooms.proofs.Changing.{lent-then, lent-as, queued-on}
@@ -11,7 +11,7 @@ returns c x =
     let p = c.args.p.now in
     let all = queued-on _ _ _ _ _ (queued-on _ _ _ _ _ c.set_kind.ensures.queued c.set_kind_to.ensures.queued) c.cut.ensures.queued in
     record {
-      same = rw (c.no_str-p.ensures, all.changed.label_room)
+      same = rw all.changed.label_room
           (linked-turn x c.args.text.now (viewed c.args.v.now) c.args.h c.args.t c.args.o p c.requires.event_lt_events
           _ _ refl refl refl _ c.place.ensures c.label_of-label.result.home c.label_of-label.result.labels c.label_of-label.result.fits
           c.label_of-label.new.labels c.label_of-label.ensures.same _ c.place-2.ensures all);

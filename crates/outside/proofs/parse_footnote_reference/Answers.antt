@@ -12,7 +12,7 @@ opens-requires c =
     let v = viewed c.args.v.now in
     let p = c.args.p.now in
     let e = c.peek_token-ahead.ensures in
-    ready-at v c.args.h p _ c.requires c.args.h.to c.requires.long c.requires.within (peeked-pos v c.args.h p c.requires _ e) (peeked-sound v c.args.h p c.requires _ e)
+    ready-at v c.args.h c.args.h p _ c.requires refl c.requires.long c.requires.within (peeked-pos v c.args.h p c.requires _ e) (peeked-sound v c.args.h p c.requires _ e)
     refl refl refl refl
 
 pub returns-in_default : goal.returns-in_default
@@ -30,7 +30,7 @@ noted-requires c =
     let v = viewed c.args.v.now in
     let p = c.args.p.now in
     let e = c.peek_token-ahead.ensures in
-    ready-at v c.args.h p _ c.requires _ (omega (arith, c.requires.long)) (both-within v c.args.h p c.requires _ e c.in-Some.t c.in-Some.is)
+    ready-at v c.args.h _ p _ c.requires refl (omega (arith, c.requires.long)) (both-within v c.args.h p c.requires _ e c.in-Some.t c.in-Some.is)
     (rw c.skip-p.ensures (both-pos v c.args.h p c.requires _ e c.in-Some.t c.in-Some.is))
     (rw c.skip-p.ensures (both-sound v c.args.h p c.requires _ e c.in-Some.t c.in-Some.is)) refl refl refl refl
 
@@ -45,7 +45,7 @@ opens-requires-2 c =
     let v = viewed c.args.v.now in
     let p = c.args.p.now in
     let e = c.peek_token-ahead.ensures in
-    ready-at v c.args.h p _ c.requires c.args.h.to c.requires.long c.requires.within (peeked-pos v c.args.h p c.requires _ e) (peeked-sound v c.args.h p c.requires _ e)
+    ready-at v c.args.h c.args.h p _ c.requires refl c.requires.long c.requires.within (peeked-pos v c.args.h p c.requires _ e) (peeked-sound v c.args.h p c.requires _ e)
     refl refl refl refl
 
 pub returns : goal.returns

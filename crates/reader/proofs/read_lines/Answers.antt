@@ -1,5 +1,5 @@
 -- `reader::read_lines` meets its contract, by the laws of `Ending` and `Calling`.
-use Rattle.std.proofs.Common.{sym, ◌∙◌}
+use Rattle.std.proofs.Common.{sym, ◌∙◌, rules}
 use Rattle.questions.proofs.Asking.{asked-passed}
 use Rattle.reader.proofs.Ending.{parsed}
 use Rattle.reader.proofs.Calling.{owed_early, owed_all}
@@ -24,7 +24,12 @@ returns-in-Err g c =
 
 pub returns-in-Ok : goal.returns-in-Ok
 returns-in-Ok g c =
-    let all = owed_all c.args.text.now _ c.args.reading c.args.events.now c.args.queue.now c.args.openers.now c.args.labels.now c.questions.ensures c.in-Ok.is
-    c.parse_lines-p.ensures.stands_for c.parse_lines-p.auto.queue c.parse_lines-p.auto.openers c.parse_lines-p.auto.labels
-    c.judge.ensures in
-    record { as_defined = all.as_defined; accepted = all.accepted; homed = all.homed; events_suffice = all.events_suffice }
+    let all = owed_all c.args.text.now _ c.args.reading c.args.events.now c.args.queue.now c.args.openers.now
+    c.args.labels.now c.questions.ensures c.in-Ok.is c.parse_lines-p.ensures.stands_for c.parse_lines-p.auto.queue
+    c.parse_lines-p.auto.openers c.parse_lines-p.auto.labels c.judge.ensures.value in
+    record {
+      as_defined = search (rules, all.as_defined);
+      accepted = search (rules, all.accepted);
+      homed = search (rules, all.homed);
+      events_suffice = all.events_suffice;
+    }

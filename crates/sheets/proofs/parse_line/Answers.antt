@@ -13,8 +13,8 @@ returns-in_default g c =
       lent = lent-same c.args.p.now c.args.p.now refl refl refl;
     }
 
-pub overflow_sub-round-end : goal.overflow_sub-round-end
-overflow_sub-round-end g c =
+pub overflow_sub-end : goal.overflow_sub-end
+overflow_sub-end g c =
     omega (
       arith,
       here-ordered c.requires,
@@ -22,8 +22,8 @@ overflow_sub-round-end g c =
       ap (λ (z : Line). z.end) c.line-l.ensures,
     )
 
-pub overflow_add-round-end : goal.overflow_add-round-end
-overflow_add-round-end g c =
+pub overflow_add-end : goal.overflow_add-end
+overflow_add-end g c =
     omega (
       arith,
       here-within c.requires,
@@ -31,40 +31,40 @@ overflow_add-round-end g c =
       ap (λ (z : Line). z.end) c.line-l.ensures,
     )
 
-pub loop-round-init : goal.loop-round-init
-loop-round-init g c = walks-first c.requires c.in-None.is c.begin_line.ensures
+pub loop-init : goal.loop-init
+loop-init g c = walks-first c.requires c.in-None.is c.begin_line.ensures
 
 pub feed_line-requires : goal.feed_line-requires
-feed_line-requires g c = walks-amid c.loop-round.invariant _ c.line-l.ensures
+feed_line-requires g c = walks-amid c.loop.invariant _ c.line-l.ensures
 
 pub returns-in_default-refused : goal.returns-in_default-refused
 returns-in_default-refused g c =
-    walks-end c.loop-round.invariant c.line-l.ensures c.feed_line.ensures c.in_default-refused.is
+    walks-end c.loop.invariant c.line-l.ensures c.feed_line.ensures c.in_default-refused.is
 
 pub block_at-requires : goal.block_at-requires
-block_at-requires g c = walks-within c.loop-round.invariant c.line-l.ensures c.feed_line.ensures c.in-Some.is
+block_at-requires g c = walks-within c.loop.invariant c.line-l.ensures c.feed_line.ensures c.in-Some.is
 
 pub returns-then-block_at : goal.returns-then-block_at
 returns-then-block_at g c =
-    walks_block c.loop-round.invariant c.line-l.ensures c.feed_line.ensures c.in-Some.is
+    walks_block c.loop.invariant c.line-l.ensures c.feed_line.ensures c.in-Some.is
     (sym c.block_at.ensures ∙ c.if-block_at.true)
 
 pub pass_brace-requires : goal.pass_brace-requires
 pass_brace-requires g c =
-    walks-brace c.loop-round.invariant c.line-l.ensures c.feed_line.ensures c.in-Some.is
+    walks-brace c.loop.invariant c.line-l.ensures c.feed_line.ensures c.in-Some.is
     (sym c.block_at.ensures ∙ c.if-block_at.false)
 
-pub loop-round-preserved : goal.loop-round-preserved
-loop-round-preserved g c =
-    walks_next c.loop-round.invariant c.line-l.ensures c.feed_line.ensures c.in-Some.is
+pub loop-preserved : goal.loop-preserved
+loop-preserved g c =
+    walks_next c.loop.invariant c.line-l.ensures c.feed_line.ensures c.in-Some.is
     (sym c.block_at.ensures ∙ c.if-block_at.false) c.pass_brace.ensures
 
 pub returns : goal.returns
 returns g c =
-    walks-last c.loop-round.invariant
+    walks-last c.loop.invariant
     (omega (
       arith,
-      c.loop-round-test.false,
+      c.loop-test.false,
       here-long c.requires,
       ap (λ (z : Line). z.start) c.line-l.ensures,
       ap (λ (z : Line). z.end) c.line-l.ensures,

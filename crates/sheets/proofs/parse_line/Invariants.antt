@@ -2,5 +2,5 @@
 use Rattle.sheets.proofs.Resuming.{Walks}
 use Rattle.sheets.proofs.parse_line.Given as goal
 
-abbrev pub invariant-loop-round : goal.invariant-loop-round
-invariant-loop-round g l = Walks l.text (g.L.Lines.listed l.lines) l.i l.reading l.fn.p l.p l.round
+abbrev pub invariant-loop : goal.invariant-loop
+invariant-loop g l = Walks l.text (g.L.Lines.listed l.lines) l.i l.reading l.fn.p l.p l.counter

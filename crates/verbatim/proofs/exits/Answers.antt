@@ -9,4 +9,4 @@ returns c =
     let p = c.args.p.now in
     queued-to p _ _ _ _ (queued-on p _ _ _ _ c.cut.ensures.queued c.push.ensures.queued) refl refl refl refl refl
     (exits-turn c.args.w p _ _ (opened-low c.args.w p c.requires.opened) c.args.n c.args.start.0 c.args.end.0 c.exit_of-e.result c.exit_of-e.ensures
-    c.no_str.result c.no_str.ensures c.cut.ensures.queued c.push.ensures.queued)
+    c.cut.ensures.queued c.push.ensures.queued)

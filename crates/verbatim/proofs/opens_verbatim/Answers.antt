@@ -16,8 +16,8 @@ returns c =
     let p = c.args.p.now in
     queued-to p _ _ _ _
     (opens-put v h p _ _ _ _ c.place-at.ensures c.place.ensures _ c.taken-dollars.ensures _ c.opened_as.ensures _ c.nowhere.ensures
-    _ c.event_of-e.ensures _ c.no_str.ensures c.leave.ensures.queued c.push.ensures.queued)
+    _ c.event_of-e.ensures c.leave.ensures.queued c.push.ensures.queued)
     refl refl refl refl refl
     (rw c.flagged-p.ensures
     (opens-turn v h p _ _ _ _ c.place-at.ensures c.place.ensures _ c.taken-dollars.ensures _ c.opened_as.ensures _ c.nowhere.ensures
-    _ c.event_of-e.ensures _ c.no_str.ensures c.leave.ensures.queued c.push.ensures.queued))
+    _ c.event_of-e.ensures c.leave.ensures.queued c.push.ensures.queued))

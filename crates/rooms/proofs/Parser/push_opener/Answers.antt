@@ -15,5 +15,5 @@ returns-clause-changed c =
     let p = c.args.self.now in
     openers-step p _ _
     (ap (λ (x : List Opener). staying p (with_openers x) (state p))
-    (rw c.number_of.ensures (simp towards_suc (opened p.openers.now p.at.openers c.args.o c.requires.opener_numbers_in_bounds))))
+    (rw c.into.ensures (simp towards_suc (opened p.openers.now p.at.openers c.args.o c.requires.opener_numbers_in_bounds))))
     refl (simp length-set) refl refl refl

@@ -16,7 +16,7 @@ loop-i-preserved c =
     let a = c.args in
     let l = c.loop-i in (
       omega arith,
-      found_below a.self.now.openers.now c.in_ok-mark.mark a.n l.i l.invariant.1 (omega arith) (λ e. let z : c.closed_by.result ≡ c.in_ok-mark.mark = c.closed_by.ensures ∙ ap closed_by c.sort_of.ensures ∙ e in search rules),
+      found_below a.self.now.openers.now c.in_ok-mark.mark a.n l.i l.invariant.1 (omega arith) (λ e. let z : c.closed_by.result ≡ c.in_ok-mark.mark = c.closed_by.ensures ∙ ap closed_by c.into.ensures ∙ e in search rules),
     )
 
 pub returns-then-i-eq0-clause-sought : goal.returns-then-i-eq0-clause-sought
@@ -32,5 +32,5 @@ returns-then-eq-clause-sought c =
     let l = c.loop-i in
     sought a.self.now.openers.now a.closes a.n c.in_ok-mark.mark (Some (l.i - 1)) c.in_ok-mark.was
     (found_here a.self.now.openers.now c.in_ok-mark.mark a.n l.i l.invariant.1 (omega arith)
-    (sym (c.closed_by.ensures ∙ ap closed_by c.sort_of.ensures)
+    (sym (c.closed_by.ensures ∙ ap closed_by c.into.ensures)
     ∙ same_true the_type (search rules) _ _ (sym c.eq.ensures ∙ c.if-eq.true)))
