@@ -105,6 +105,7 @@ fn replay(bytes: &[u8]) -> Report {
     Report { cases, differ }
 }
 
+// The room is the program's: `replay_input` is shared, and what it is lent and replays is not.
 fn main(rt: HostRuntime) -> io::Result<()> {
     let mut room = [0u8; 524288];
     stored::replay_input(&mut rt.reader(), &mut io::writer(&rt), &mut room, replay)

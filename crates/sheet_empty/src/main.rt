@@ -1,5 +1,5 @@
 #![tactic(auto)]
-// `sheet`, on no input.
+// `sheet`, on no input. A program has one stored run, and so each run its program.
 use std::io;
 
 fn main(rt: HostRuntime) -> io::Result<()> {

@@ -1,5 +1,5 @@
 #![tactic(auto)]
-// `sheet`, on 1,001 bytes.
+// `sheet`, on 1,001 bytes. A program has one stored run, and so each run its program.
 use std::io;
 
 fn main(rt: HostRuntime) -> io::Result<()> {

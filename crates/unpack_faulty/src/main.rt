@@ -1,5 +1,6 @@
 #![tactic(auto)]
-// `./unpack`, on a list in which a length has a byte more than it needs.
+// `./unpack`, on a list in which a length has a byte more than it needs. A program has one stored run,
+// and so each run its program.
 use std::io;
 
 fn main(rt: HostRuntime) -> io::Result<()> {
