@@ -2,7 +2,6 @@
 // Events that are put behind the queue: one for a token, those of an accepted scan, of hyphens and
 // of periods. What the rules ask of the newest event is noted as it is put.
 ghost use Rattle.std.specs.Prelude.{◌≡◌, ◌+◌, ◌-◌, ◌*◌, ◌≤◌, ◌<◌, length, None};
-ghost use Rattle.reading.specs.Events as events;
 ghost use Rattle.reading.specs.Events.{largest};
 ghost use Rattle.reading.specs.Machine.{dollars_of, last_of, puts};
 ghost use Rattle.reading.specs.Machine as machine;
@@ -12,15 +11,8 @@ ghost use Rattle.rooms.specs.Standing.{viewed, here, Fits};
 ghost use Rattle.rooms.specs.Steps.{Queued, Room, staying};
 
 use lex::Cursor;
-use reading::{Home, Last, NOWHERE, kind};
+use reading::{Last, NOWHERE, kind};
 use rooms::{Parser, Span, View};
-
-// No home.
-pub fn nowhere() -> Home
-    ensures { result ≡ events.nowhere }
-{
-    NOWHERE
-}
 
 // A dollar before the i-th byte that no backslash takes out.
 fn dollar(v: &View, i: usize) -> bool
@@ -68,7 +60,7 @@ pub fn put(p: &mut Parser, v: &View, kind: u32, h: Span)
     ensures queued { Queued p.old p.new (staying p.old (machine.put (viewed v.now) kind h.from h.to)) }
     ensures count { p.new.at.events ≡ p.old.at.events + 1 }
 {
-    p.push(v.homed(kind, nowhere(), h.from, h.to), last_of(v, kind, h));
+    p.push(v.homed(kind, NOWHERE, h.from, h.to), last_of(v, kind, h));
 }
 
 // So many events of a kind, each w bytes wide, from the i-th byte of the line on.
@@ -79,10 +71,9 @@ fn row(p: &mut Parser, v: &View, kind: u32, w: usize, n: usize, i: usize)
     ensures count { p.new.at.events ≡ p.old.at.events + n }
 {
     p.at.last = None;
-    let mut at = i;
-    for _ in 0..n {
-        p.push(v.homed(kind, nowhere(), at, at + w), None);
-        at += w;
+    for k in 0..n {
+        let at = i + k * w;
+        p.push(v.homed(kind, NOWHERE, at, at + w), None);
     }
 }
 
@@ -123,7 +114,7 @@ pub fn autolinked(p: &mut Parser, v: &View, h: Span, n: usize)
     let end = h.to + n;
     let home = v.in_text(h.to, end);
     p.push(v.homed(kind::ENTER_AUTOLINK, home, h.from, h.to), None);
-    p.push(v.homed(kind::STR, nowhere(), h.to, end), None);
+    p.push(v.homed(kind::STR, NOWHERE, h.to, end), None);
     p.push(v.homed(kind::EXIT_AUTOLINK, home, end, end + 1), None);
     p.at.cursor = Cursor::new(end + 1, false);
 }

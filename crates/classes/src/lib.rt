@@ -18,7 +18,7 @@ const PUNCTUATION: u8 = 4;
 const ALPHANUMERIC: u8 = 8;
 
 // A set of bytes that a run is made of. An enum, where the source passes a closure: the definition
-// names the sets (`in_set`), and one law serves the scans and the lexer's text.
+// names the sets (`in_set`), while of a closure a contract has a relation and no predicate.
 #[derive(Clone, Copy)]
 pub enum Set {
     // Text: not special.
@@ -66,21 +66,13 @@ pub fn is_alphanumeric(b: u8) -> bool
     has(b, ALPHANUMERIC)
 }
 
-// Text.
-#[tactic(auto, using(crate::proofs::Rule::special_flag), unfolding(crate::specs::Sets::in_set))]
-fn is_plain(b: u8) -> bool
-    ensures { result ≡ in_set Set.Plain b }
-{
-    !has(b, SPECIAL)
-}
-
 // A byte of a set.
-#[tactic(auto, using(crate::proofs::Rule::blank_flag, crate::proofs::Rule::alphanumeric_flag), unfolding(crate::specs::Sets::in_set, crate::specs::Classes::bytes, crate::specs::Classes::among))]
+#[tactic(auto, using(crate::proofs::Rule::special_flag, crate::proofs::Rule::blank_flag, crate::proofs::Rule::alphanumeric_flag), unfolding(crate::specs::Sets::in_set, crate::specs::Classes::bytes, crate::specs::Classes::among))]
 fn within(b: u8, set: Set) -> bool
     ensures { result ≡ in_set set b }
 {
     match set {
-        Set::Plain => is_plain(b),
+        Set::Plain => !has(b, SPECIAL),
         Set::SpaceTab => (b == b' ') | (b == b'\t'),
         Set::Address => !((b == b'<') | (b == b'>') | has(b, BLANK)),
         Set::Unmarked => !((b == b'<') | (b == b'>') | (b == b':') | (b == b'@') | has(b, BLANK)),
@@ -90,13 +82,11 @@ fn within(b: u8, set: Set) -> bool
     }
 }
 
-// How many bytes at the front are text. With a loop of its own beside `eat_while`, which asks at
-// each byte what set it is of.
-#[tactic(auto, unfolding(crate::specs::Sets::run))]
+// How many bytes at the front are text.
 pub fn eat_plain(s: &[u8]) -> usize
     ensures { result ≡ run (in_set Set.Plain) s.now }
 {
-    s.iter().take_while(|b| is_plain(**b)).count()
+    eat_while(s, Set::Plain)
 }
 
 // How many bytes at the front are of a set.

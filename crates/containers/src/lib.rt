@@ -1,6 +1,8 @@
 #![tactic(auto)]
 // Containers, quotes and spans: `parse_container` of the source. A token as a closer, then as an
-// opener, then alone.
+// opener, then alone. What is asked of a token, of the opener that it closes and of the label room
+// (`Ready`, `Names`, `LabelRoom`) is no invariant of the parser: what is put spends the first, the
+// second is of one opener, and the third asks more of what is lent than `Parser::new` does.
 ghost use Rattle.std.specs.Prelude.{◌≡◌, ℕ, ◌+◌, ◌*◌, ◌^◌, ◌≤◌, ◌<◌, length, IfSome};
 ghost use Rattle.lex.specs.Lexer.{peek_of};
 ghost use Rattle.lex.specs.declared.lex.Cursor.{Cursor};
@@ -14,7 +16,7 @@ ghost use Rattle.rooms.specs.Steps.{state, Stepped, Changed, Queued, Room, stayi
 ghost use Rattle.links.specs.Linked.{sheet_of};
 ghost use Rattle.containers.specs.Ready.{Ready, LabelRoom, along_with, span_closed, closable};
 
-use reading::{Closer, DelimEventKind, Marks, Opener, Pair, Sort, kind};
+use reading::{Closer, DelimEventKind, Marks, NOWHERE, Opener, Pair, Sort, kind};
 use rooms::{Parser, Span, View};
 
 // The newest opener that a token closes is the only one tried. An empty pair does not close, except
@@ -45,8 +47,8 @@ fn closes_pair(p: &mut Parser, v: &View, h: Span, pair: Pair, o: Opener)
     requires room { Room 1 p.old }
     ensures { Queued p.old p.new (staying p.old (spec.closes_pair (viewed v.now) (here h p.old.at) pair.first pair.second o)) }
 {
-    p.set_kind(o.event, pair.first, atoms::nowhere());
-    let e = v.homed(pair.second, atoms::nowhere(), h.from, h.to);
+    p.set_kind(o.event, pair.first, NOWHERE);
+    let e = v.homed(pair.second, NOWHERE, h.from, h.to);
     p.push(e, None);
 }
 
@@ -137,8 +139,8 @@ fn opens_or(p: &mut Parser, v: &View, h: Span, k: Marks)
     }
 }
 
-// What the end of each sort makes. Behind it the token is peeked at, unless a bracket was taken
-// along.
+// What the end of each sort makes, each from what its case holds. Behind it the token is peeked at,
+// unless a bracket was taken along.
 #[tactic(auto, unfolding(reading::specs::Containers::close_as))]
 fn close_as(p: &mut Parser, text: &[u8], v: &View, h: Span, o: Opener)
     requires ready { Ready (viewed v.now) h p.old }

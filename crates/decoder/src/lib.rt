@@ -76,12 +76,12 @@ impl<'a> Input<'a> {
         ensures { Read self.old (λ bs. home_from bs kind) result self.new }
     {
         let home = self.home(kind)?;
-        let mut start = 0;
-        let mut end = 0;
-        if home != NO_HOME {
-            start = self.number()?;
-            end = self.sum(start)?;
-        }
+        let (start, end) = if home != NO_HOME {
+            let start = self.number()?;
+            (start, self.sum(start)?)
+        } else {
+            (0, 0)
+        };
         let link = if packing::has_link(kind) {
             self.number()?
         } else {

@@ -39,7 +39,7 @@ module _ {queue : List ℕ} {n : ℕ} {h₀ h : Held} {i : ℕ} (head : Head que
             ∙ (λ t. ◌∷◌ ((rows_at event_at n queue i (event_at queue i) inside ∙ sym is) t) (drop (sym (add-one i) t) (events n queue)))
 
   -- at the end of the queue
-  pub last : n ≤ i → Puts h₀ (drain (events n queue)) (Some tt) h (flushed h.start h.end [])
+  pub last : n ≤ i → Puts h₀ (drain (events n queue)) (Some tt) h (flushed h.start.0 h.end.0 [])
   unfolding drained
   last l = rw (drop_of_length-le (events n queue) {i = i} (omega (arith, rows-length event_at n queue))) at head.puts
 

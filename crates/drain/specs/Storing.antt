@@ -31,7 +31,7 @@ put_all (e ∷ es) s = put_all es (put e s.answer s.room)
 
 -- of events of the queue, what is to be put out behind the Str that is held
 abbrev pub behind : Held → List Event → List Event
-behind h es = drained h.start h.end es
+behind h es = drained h.start.0 h.end.0 es
 
 -- what was put out by the answer r and what is then held, and the events that are left behind it. A
 -- full room stays as it is

@@ -2,7 +2,7 @@
 // Handing out the queue's events: touching Str events become one, empty ones vanish.
 ghost use Rattle.std.specs.Prelude.{◌≡◌, List, [], ◌∷◌, ◌*◌, ◌/◌, ◌≤◌, length};
 ghost use Rattle.reading.specs.declared.Event.{Event};
-ghost use Rattle.reading.specs.Events.{event, str, event_numbers, queue_numbers};
+ghost use Rattle.reading.specs.Events.{event_numbers, queue_numbers};
 ghost use Rattle.reading.specs.Draining.{drain};
 ghost use Rattle.rooms.specs.Records.{events};
 ghost use Rattle.drain.specs.Handing.{answered, handed};
@@ -15,8 +15,8 @@ use reading::{EVENT_NUMBERS, Event, NOWHERE, Place, kind};
 struct Held<'r> {
     room: &'r mut [u32],
     count: usize,
-    start: u32,
-    end: u32,
+    start: Place,
+    end: Place,
 }
 
 impl<'r> Held<'r> {
@@ -32,17 +32,17 @@ impl<'r> Held<'r> {
         if e.kind != kind::STR {
             self.flush()?;
             self.hand_out(e)?;
-            self.start = e.end.0;
-            self.end = e.end.0;
+            self.start = e.end;
+            self.end = e.end;
             return Some(());
         }
-        if self.end == e.start.0 {
-            self.end = e.end.0;
+        if self.end == e.start {
+            self.end = e.end;
             return Some(());
         }
         self.flush()?;
-        self.start = e.start.0;
-        self.end = e.end.0;
+        self.start = e.start;
+        self.end = e.end;
         Some(())
     }
 
@@ -50,12 +50,12 @@ impl<'r> Held<'r> {
     #[tactic(auto, unfolding(reading::specs::Draining::flushed))]
     fn flush(&mut self) -> Option<()>
         ensures { (es : List Event) →
-            Puts self.old (flushed self.old.start self.old.end es) result self.new es }
+            Puts self.old (flushed self.old.start.0 self.old.end.0 es) result self.new es }
     {
         if self.start == self.end {
             return Some(());
         }
-        self.hand_out(str_of(self.start, self.end))
+        self.hand_out(rooms::event_of(kind::STR, self.start, self.end, NOWHERE))
     }
 
     // One event behind those that were handed out, if the room holds it.
@@ -82,19 +82,12 @@ pub fn drain(queue: &[u32], n: usize, room: &mut [u32]) -> Option<usize>
     let mut held = Held {
         room,
         count: 0,
-        start: 0,
-        end: 0,
+        start: Place(0),
+        end: Place(0),
     };
     for i in 0..n {
         held.event(rooms::event_at(queue, i))?;
     }
     held.flush()?;
     Some(held.count)
-}
-
-// The Str from start to before end.
-fn str_of(start: u32, end: u32) -> Event
-    ensures { result ≡ event str start end }
-{
-    rooms::event_of(kind::STR, Place(start), Place(end), NOWHERE)
 }

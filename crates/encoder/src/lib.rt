@@ -10,7 +10,7 @@ ghost use Rattle.encoder.specs.Encoding.{whole, put_as, Forward};
 use groups::put_number;
 use output::Output;
 use packing::LARGEST;
-use reading::{EVENT_NUMBERS, Event, NO_HOME};
+use reading::{EVENT_NUMBERS, Event, NO_HOME, Place};
 
 // Why a list is not written: the first event that cannot be written, or a room that does not hold
 // the bytes.
@@ -31,26 +31,26 @@ fn idle(e: Event) -> bool
 
 // The event with i others before it, the last of which ends at prev, can be written.
 #[tactic(auto, using(std::proofs::lemmas::Bool::Decides::nat_tests), unfolding(packing::specs::Packed::flaw_of, packing::specs::Packed::unless))]
-fn sound(i: usize, prev: u32, e: Event) -> bool
-    ensures { result ≡ is_none (flaw_of i prev e) }
+fn sound(i: usize, prev: Place, e: Event) -> bool
+    ensures { result ≡ is_none (flaw_of i prev.0 e) }
 {
     packing::known(e.kind)
         && packing::may_have(e.kind, e.home)
-        && e.start.0 <= e.end.0
-        && e.home_start.0 <= e.home_end.0
-        && prev <= e.start.0
+        && e.start <= e.end
+        && e.home_start <= e.home_end
+        && prev <= e.start
         && idle(e)
         && i < LARGEST as usize
 }
 
 // An event behind one that ends at prev.
 #[tactic(auto, unfolding(groups::specs::Groups::spelled_all, packing::specs::Packed::fields))]
-fn put_event(out: &mut Output, prev: u32, e: Event) -> Option<()>
-    requires { Forward prev e }
-    ensures { Adds out.old (spelled_all (fields prev e)) result out.new }
+fn put_event(out: &mut Output, prev: Place, e: Event) -> Option<()>
+    requires { Forward prev.0 e }
+    ensures { Adds out.old (spelled_all (fields prev.0 e)) result out.new }
 {
     put_number(out, e.kind)?;
-    put_number(out, e.start.0 - prev)?;
+    put_number(out, e.start.0 - prev.0)?;
     put_number(out, e.end.0 - e.start.0)?;
     put_number(out, e.home)?;
     put_behind_home(out, e)
@@ -87,14 +87,14 @@ pub fn put_list(events: &[u32], room: &mut [u8]) -> Result<usize, PutError>
     let n = events.len() / EVENT_NUMBERS;
     let mut out = Output::new(room);
     let mut fits = n <= LARGEST as usize && put_number(&mut out, n as u32).is_some();
-    let mut prev = 0;
+    let mut prev = Place(0);
     for i in 0..n {
         let e = listing::event_at(events, i);
         if !sound(i, prev, e) {
             return Err(PutError::Flaw(i));
         }
         fits = fits && put_event(&mut out, prev, e).is_some();
-        prev = e.end.0;
+        prev = e.end;
     }
     if fits {
         Ok(out.count())

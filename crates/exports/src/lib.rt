@@ -101,7 +101,7 @@ pub struct Mark {
     pub len: usize,
 }
 
-// A cursor, with its flag as C sees it.
+// A cursor, with its token as C sees it.
 #[repr(C)]
 #[derive(Clone, Copy)]
 pub struct CursorNumbers {
@@ -280,6 +280,7 @@ pub fn mivurakol_next(src: &[u8], s: CursorNumbers) -> Step
     lexer::next_token(src, s.into()).into()
 }
 
+// The scans ahead, from a place on, which C lends beside the bytes.
 pub fn mivurakol_autolink(src: &[u8], from: usize) -> Scanned
     ensures { result ≡ scanned_of (autolink_of (drop from src.now)) }
 {

@@ -1,6 +1,7 @@
 #![tactic(auto)]
 // The functions of `exports` under their C names: the static library that the comparison links. A
-// crate is a library or a static library and not both, and `replay` calls the library's.
+// crate is a library or a static library and not both, and `replay` calls the library's; two of
+// them, which it does not call, stand with the others.
 ghost use Rattle.std.specs.Prelude.{◌≡◌, ◌+◌, ◌/◌, ◌≤◌, length, drop};
 ghost use Rattle.attr.specs.Attributes.{fed};
 ghost use Rattle.lex.specs.Lexer.{fresh_of, peek_of, next_of};

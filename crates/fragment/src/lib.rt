@@ -11,7 +11,8 @@ use outcome::Rooms;
 use reading::Line;
 use verdict::FragmentAnswer;
 
-// Reads a sheet, as `records::read`, and writes its fragment from the front of the output room.
+// Reads a sheet, as `records::read`, and writes its fragment from the front of the output room. The
+// rooms are lent one by one, as at `reader::read_lines`.
 pub fn write(
     text: &[u8],
     lines: &[Line],

@@ -68,10 +68,7 @@ fn more(bytes: &[u8], at: usize, low: u32) -> Result<(u32, usize), NumberError>
 pub fn number_at(bytes: &[u8], at: usize) -> Result<(u32, usize), NumberError>
     ensures { result ≡ number_at bytes.now at }
 {
-    let Some(first) = bytes.get(at) else {
-        return Err(NumberError::Cut);
-    };
-    let b = u32::from(*first);
+    let b = u32::from(*bytes.get(at).ok_or(NumberError::Cut)?);
     if b < HIGH {
         return Ok((b, at + 1));
     }

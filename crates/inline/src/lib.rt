@@ -106,14 +106,13 @@ pub fn pass_brace(p: &mut Parser, text: &[u8], l: Line, at: Place)
     atoms::put(p, &v, kind::STR, brace);
 }
 
-// A validator is fed a part of the text: a line, or what is behind a brace of one, which is no
-// line.
-pub fn validate(text: &[u8], start: usize, end: usize, v: Validator) -> Validator
-    requires start_le_end { start ≤ end }
-    requires end_in_bounds { end ≤ length text.now }
-    ensures { result ≡ record { state = fed (view_of text.now (record { start = start; end = end })).bytes v.state } }
+// A validator is fed a line, or a line from a brace of it on.
+pub fn validate(text: &[u8], l: Line, v: Validator) -> Validator
+    requires start_le_end { l.start ≤ l.end }
+    requires end_in_bounds { l.end ≤ length text.now }
+    ensures { result ≡ record { state = fed (view_of text.now l).bytes v.state } }
 {
-    v.parse(&text[start..end])
+    v.parse(&text[l.start..l.end])
 }
 
 // Nothing is queued, open or refused at first.

@@ -1,34 +1,35 @@
--- The lines of a text, while they are put into a room.
-use Rattle.std.proofs.Common.{◌≡◌, ℕ, ◌+◌, ◌≤◌, ◌<◌, List, [], ◌∷◌, ◌++◌, length, get_or, take, drop, set, append-nil, append_assoc, add-one, drop-cons, drop_of_length-le}
+-- The lines of a text, by its pieces up to a newline.
+use Rattle.std.proofs.Common.{◌≡◌, ℕ, zero, suc, ◌+◌, ◌≤◌, ◌<◌, min, subst, List, [], ◌∷◌, ◌++◌, length, take, set, append-nil, append_assoc, add-one, add-suc, suc-add}
 use Rattle.std.proofs.Math.Seq.{take-suc-set}
-use borrow.Author.Tests.{eq-eqb, ne_eqb, lt-ltb, le-ltb}
+use Rattle.std.proofs.lemmas.List.{nil_from_length}
+use Rattle.std.specs.List.{IsFirstMatchOrLen}
+use borrow.Author.Tests.{lt-ltb, le-ltb}
+use lib.Dec.{eqb}
+use native.Mathlib.Omega.{arith}
 use Rattle.reading.specs.declared.Line.{Line}
 use Rattle.input.specs.Lines.{lines_from}
 
--- the lines from a place on, in a line that began at `from`: at a newline, at another byte, and at the end of the text
-module _ (text : List ℕ) (from i : ℕ) where
-  pub at_newline : i < length text → get_or text i 0 ≡ 10
-      → lines_from from i (drop i text) ≡ record { start = from; end = i + 1 } ∷ lines_from (i + 1) (i + 1) (drop (i + 1) text)
+-- x is the front of w up to its first newline, which is at i, or all of it
+abbrev Piece : List ℕ → List ℕ → ℕ → Type 0
+Piece w x i = (0 < length w) × (length x ≡ min (i + 1) (length w)) × IsFirstMatchOrLen (λ b. eqb b 10) w i
+
+-- the lines from a place on, in a line that began at `from`, are that front and those behind it
+first_line : (from at : ℕ) (x rest : List ℕ) (i : ℕ) → from ≤ at → Piece (x ++ rest) x i → lines_from from at (x ++ rest) ≡ record { start = from; end = at + length x } ∷ lines_from (at + length x) (at + length x) rest
+unfolding lines_from
+first_line from at [] rest i l h = absurd (omega (arith, h.0, h.1))
+first_line from at (b ∷ []) rest zero l h = rw (lines_from, h.2.1 h.0 0, add-one)
+first_line from at (b ∷ []) [] (suc i) l h = rw (lines_from, h.2.0 0 0 (omega arith) (omega arith), lt-ltb from (suc at) (omega arith), add-one, le-ltb (suc at) (suc at) (omega arith))
+first_line from at (b ∷ []) (c ∷ rest) (suc i) l h = absurd (omega (arith, h.1))
+first_line from at (b ∷ c ∷ x) rest zero l h = absurd (omega (arith, h.1))
+first_line from at (b ∷ c ∷ x) rest (suc i) l h =
+    rw (lines_from, h.2.0 0 0 (omega arith) (omega arith), add-suc, first_line from (suc at) (c ∷ x) rest i (omega arith) (omega arith, omega (arith, h.1), ((λ k d m n. h.2.0 (suc k) d (omega arith) (omega arith)), λ m. h.2.1 (omega arith))), suc-add, add-suc)
+
+-- so one more line is put behind n others, and behind the last piece there is none
+module _ (room : List Line) (n from : ℕ) (w : List ℕ) where
+  pub put_line : (x rest : List ℕ) (i : ℕ) → n < length room → w ≡ x ++ rest → Piece w x i
+      → take (n + 1) (set room n (record { start = from; end = from + length x })) ++ lines_from (from + length x) (from + length x) rest ≡ take n room ++ lines_from from from w
+  put_line x rest i fits is h = rw (add-one, take-suc-set room n (record { start = from; end = from + length x }) fits, append_assoc, is, first_line from from x rest i (omega arith) (subst (λ v. Piece v x i) is h))
+
+  pub no_more : length w ≡ 0 → take n room ++ lines_from from from w ≡ take n room
   unfolding lines_from
-  at_newline h e = rw add-one (rw (drop-cons text i 0 h, lines_from, eq-eqb (get_or text i 0) 10 e))
-
-  pub at_other : i < length text → (get_or text i 0 ≡ 10 → ⊥) → lines_from from i (drop i text) ≡ lines_from from (i + 1) (drop (i + 1) text)
-  unfolding lines_from
-  at_other h n = rw add-one (rw (drop-cons text i 0 h, lines_from, ne_eqb (get_or text i 0) 10 n))
-
-  pub at_end : length text ≤ i → from < i → lines_from from i (drop i text) ≡ record { start = from; end = i } ∷ []
-  unfolding lines_from
-  at_end h l = rw (drop_of_length-le text h, lines_from, lt-ltb from i l)
-
-  pub behind_newline : (front : List Line) → length text ≤ i → i ≤ from → front ++ lines_from from i (drop i text) ≡ front
-  unfolding lines_from
-  behind_newline front h l = rw (drop_of_length-le text h, lines_from, le-ltb from i l) (append-nil front)
-
--- a line is put behind n others
-pub put_line : (room rest : List Line) (n : ℕ) (x : Line) → n < length room → take (n + 1) (set room n x) ++ rest ≡ take n room ++ (x ∷ rest)
-put_line room rest n x h = rw (add-one, take-suc-set room n x h, append_assoc)
-
-pub put_last : (room : List Line) (n : ℕ) (x : Line) → n < length room → take (n + 1) (set room n x) ≡ take n room ++ (x ∷ [])
-put_last room n x h = rw (add-one, take-suc-set room n x h)
-
-pub ruleset line_steps = (at_newline, at_other, at_end, behind_newline, put_line, put_last)
+  no_more none = rw (nil_from_length w none, lines_from, le-ltb from from (omega arith), append-nil)

@@ -10,7 +10,8 @@ use reading::{EVENT_NUMBERS, Line, OPENER_NUMBERS, QUEUE_NUMBERS};
 use std::io;
 use std::io::Read;
 
-// A program's input in bytes: what is called with a sheet's text asks that it be no longer.
+// A program's input in bytes. Five functions ask that a sheet's text be no longer, in one clause
+// each; a type of such texts would be made in three and taken apart in three.
 pub const BYTES: usize = 1000;
 
 // The rooms in which a program reads a sheet of so many bytes.
@@ -44,9 +45,9 @@ impl SheetRooms {
     }
 }
 
-// The lines of a text, each with its newline, from the front of a room. By the places of its bytes,
-// since a line is a start and an end, which no piece of a text has.
-#[tactic(auto, using(crate::proofs::Splitting::line_steps), unfolding(crate::specs::Lines::text_lines))]
+// The lines of a text, each with its newline, from the front of a room. A piece of a text has no
+// place, so where it begins is counted.
+#[tactic(auto, using(crate::proofs::Splitting::no_more), unfolding(crate::specs::Lines::text_lines))]
 pub fn split_lines<'a>(text: &[u8], room: &'a mut [Line]) -> &'a [Line]
     requires { length text.now ≤ length room.old }
     ensures lines { result.now ≡ text_lines text.now }
@@ -54,25 +55,13 @@ pub fn split_lines<'a>(text: &[u8], room: &'a mut [Line]) -> &'a [Line]
 {
     let mut n = 0;
     let mut from = 0;
-    for (i, b) in text.iter().enumerate() {
-        if *b == b'\n' {
-            room[n] = Line {
-                start: from,
-                end: i + 1,
-            };
-            n += 1;
-            from = i + 1;
-        }
+    for line in text.split_inclusive(|b| *b == b'\n') {
+        let end = from + line.len();
+        room[n] = Line { start: from, end };
+        n += 1;
+        from = end;
     }
-    if from < text.len() {
-        room[n] = Line {
-            start: from,
-            end: text.len(),
-        };
-        &room[..n + 1]
-    } else {
-        &room[..n]
-    }
+    &room[..n]
 }
 
 // Bytes from a reader, until the room is full or nothing is left, and how many there are. Each turn
@@ -101,9 +90,5 @@ pub fn read_short<'a, R: Read>(from: &mut R, room: &'a mut [u8]) -> io::Result<O
         (λ input. option_copied o ≡ short_input (length room.old) input)) }
 {
     let n = read_full(from, room)?;
-    if n < room.len() {
-        Ok(Some(&room[..n]))
-    } else {
-        Ok(None)
-    }
+    Ok((n < room.len()).then_some(&room[..n]))
 }

@@ -102,11 +102,11 @@ fn bytes(out: &mut Output, j: &mut Joint, s: &[u8]) -> Option<()>
 // What an event behind the destination's opener gives; the span before it ends at `at`. Where the
 // two do not touch, it begins as behind a newline.
 #[tactic(auto, unfolding(reading::specs::Labels::pieces, crate::specs::Building::behind, crate::specs::Building::stretch))]
-fn stretch(out: &mut Output, j: &mut Joint, text: &[u8], e: Event, at: u32) -> Option<()>
-    ensures bytes { Adds out.old (given j.old (stretch_of text.now at e)) result out.new }
-    ensures joint { IfSome result (λ _. j.new ≡ behind j.old (stretch_of text.now at e)) }
+fn stretch(out: &mut Output, j: &mut Joint, text: &[u8], e: Event, at: Place) -> Option<()>
+    ensures bytes { Adds out.old (given j.old (stretch_of text.now at.0 e)) result out.new }
+    ensures joint { IfSome result (λ _. j.new ≡ behind j.old (stretch_of text.now at.0 e)) }
 {
-    if at != e.start.0 {
+    if at != e.start {
         j.apart = j.begun;
     }
     bytes(out, j, e.under(text))
@@ -119,13 +119,13 @@ fn lines(
     queue: &[u32],
     n: usize,
     d: Destination,
-    end: u32,
+    end: Place,
     room: &mut [u8],
 ) -> Option<usize>
     requires queue_numbers_in_bounds { n * queue_numbers ≤ length queue.now }
     requires event_lt_n { d.event < n }
     ensures { Wrote room.old 0 (pieces (separator d.inline) false false
-        (stretches text.now end (drop (suc d.event) (events n queue.now)))) result room.new }
+        (stretches text.now end.0 (drop (suc d.event) (events n queue.now)))) result room.new }
 {
     let mut out = Output::new(room);
     let mut j = Joint {
@@ -137,7 +137,7 @@ fn lines(
     for i in d.event + 1..n {
         let e = rooms::event_at(queue, i);
         stretch(&mut out, &mut j, text, e, at)?;
-        at = e.end.0;
+        at = e.end;
     }
     Some(out.count())
 }
@@ -214,7 +214,7 @@ pub fn label_of(
         (drop (suc d.span) (take (d.event - 1) (events n queue.now))) (drop (suc d.event) (events n queue.now)))) }
 {
     let e = rooms::event_at(queue, d.event);
-    let by_text = !d.inline & (e.end.0 == d.at.0);
+    let by_text = !d.inline & (e.end == d.at);
     if !by_text & (d.base <= e.start.0 as usize) {
         return home_in_text(e.end, d.at, d.link, used, fits);
     }
@@ -225,6 +225,6 @@ pub fn label_of(
         let built = words(text, queue, d, &mut labels[used..]);
         return home_in_room(d.link, used, built);
     }
-    let built = lines(text, queue, n, d, e.end.0, &mut labels[used..]);
+    let built = lines(text, queue, n, d, e.end, &mut labels[used..]);
     home_in_room(d.link, used, built)
 }

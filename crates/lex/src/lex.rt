@@ -365,7 +365,7 @@ fn start_of(b: u8) -> Start
     }
 }
 
-// The token at a byte that is not escaped: what each start is.
+// The token at a byte that is not escaped: what each start is, row by row the definition's table.
 #[tactic(auto, unfolding(crate::specs::Lexer::begun_by))]
 fn begun(s: &[u8]) -> Token
     requires { 0 < length s.now }

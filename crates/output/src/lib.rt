@@ -49,12 +49,7 @@ impl<'a> Output<'a> {
     pub fn put_byte(&mut self, b: u8) -> Option<()>
         ensures { Adds self.old (b ∷ []) result self.new }
     {
-        if self.at == self.room.len() {
-            return None;
-        }
-        self.room[self.at] = b;
-        self.at += 1;
-        Some(())
+        self.put(&[b])
     }
 
     // Bytes from the front of some, as long as they are such ones and the room holds them: how many

@@ -18,7 +18,8 @@ ghost use Rattle.outside.specs.Outside.{Ended, TokenReady};
 use reading::{LONGEST_RUN, Role, Sort, kind};
 use rooms::{Parser, Span, View};
 
-// A token that is Str.
+// A token that is Str. `TokenReady` and `Ready` are of a token and the line behind it: what is put
+// spends their room, so that they are no invariant of the parser.
 #[tactic(auto, using(crate::proofs::Single::queued_alone))]
 fn alone(p: &mut Parser, v: &View, h: Span)
     requires { TokenReady (viewed v.now) h p.old }
@@ -36,8 +37,8 @@ fn opens(p: &mut Parser, v: &View, h: Span)
     containers::open_as(p, v, h, Sort::Span);
 }
 
-// `<`: an autolink if the scan accepts. This and the two below each have their own scan, their own
-// event and their own way without one: one function of them would take all three as closures.
+// `<`: an autolink if the scan accepts. This and the two below are two arms each, and of scan,
+// event and what comes without one at least two differ: one function would take them as parameters.
 #[tactic(auto, unfolding(reading::specs::Reading::outside, reading::specs::Reading::angle))]
 fn parse_autolink(p: &mut Parser, v: &View, h: Span)
     requires { TokenReady (viewed v.now) h p.old }

@@ -126,7 +126,8 @@ fn events_of(bytes: &[u8], room: &mut [u32]) -> Result<usize, UnpackError>
 // Unpacks a list, and says which fault it has. It hands out how many events there are, as the
 // answer has them.
 pub fn restore(bytes: &[u8], events: &mut [u32]) -> Result<usize, UnpackError>
-    ensures { restoring result events.new ≡ restored bytes.now events.old }
+    ensures as_defined { restoring result events.new ≡ restored bytes.now events.old }
+    ensures count_in_bounds { IfOk result (λ n. n ≤ length events.old / event_numbers) }
 {
     let unpacked = events_of(bytes, events);
     let records = unpacked.unwrap_or(0);

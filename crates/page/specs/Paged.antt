@@ -1,18 +1,15 @@
 -- What `./fragment` writes (document 02, L1): the fragment of a sheet, or why there is none.
-use Rattle.std.specs.Prelude.{ℕ, ◌==◌, List, length, take, replicate, nat_lt, if◌then◌else◌}
+use Rattle.std.specs.Prelude.{ℕ, List, length, take, replicate, nat_lt, if◌then◌else◌}
 use Rattle.verdict.specs.declared.FragmentAnswer.{FragmentAnswer}
 use Rattle.verdict.specs.Fragments.{Fragmented, fragmented}
-use Rattle.printing.specs.Printed.{Written, on_out, on_errors, refused_line, over_line}
+use Rattle.printing.specs.Printed.{Written, on_errors, answered, over_line}
 use Rattle.input.specs.Lines.{text_lines}
 use Rattle.input.specs.Rooms.{sheet_rooms}
 use Rattle.page.specs.Refused.{refusal_text}
 
 -- of an answer, and the output room
 abbrev pub answer_text : FragmentAnswer → List ℕ → Written
-answer_text a out =
-    if a.code == 0
-    then on_out (take a.length out)
-    else on_errors (refused_line a.code a.place (refusal_text a.code))
+answer_text a out = answered a.code a.place (refusal_text a.code) (take a.length out)
 
 -- of a sheet, in some output room
 abbrev pub fragment_text : Fragmented → Written

@@ -1,8 +1,10 @@
 -- What the programs print: numbers and events, a line each, and why a sheet is refused.
-use Rattle.std.specs.Prelude.{ℕ, zero, suc, ◌/◌, ◌==◌, List, [], ◌++◌, map, length, take, drop, codes, decimal, if◌then◌else◌}
+use Rattle.std.specs.Prelude.{ℕ, zero, suc, ◌/◌, ◌==◌, List, [], ◌++◌, Option, map, length, take, drop, codes, decimal, if◌then◌else◌}
+use Rattle.std.specs.Io.KnownBytes.{Appends}
 use Rattle.std.specs.List.{join_with_byte}
 use Prim.Native.Char.{code}
 use Rattle.reading.specs.Events.{event_numbers}
+use Rattle.printing.specs.declared.Ends.{Ends}
 
 -- numbers on one line, with a blank between each two
 abbrev pub numbers_line : List ℕ → List ℕ
@@ -46,3 +48,12 @@ on_out bs = record { out = bs; errors = [] }
 
 abbrev pub on_errors : List ℕ → Written
 on_errors bs = record { out = []; errors = bs }
+
+-- what is answered: bytes, or why there are none
+abbrev pub answered : ℕ → ℕ → List ℕ → List ℕ → Written
+answered c place meaning bs = if c == 0 then on_out bs else on_errors (refused_line c place meaning)
+
+-- that so much is written on each of the two, wherever it is known what they hold. Closed, so that
+-- the check hands it on as one fact; what writes on one of the two opens it
+unfoldable pub Writes : {W E : Type 0} → (W → Option (List ℕ)) → (E → Option (List ℕ)) → Ends W E → Ends W E → Written → Type 0
+Writes out errors old new w = Appends (out old.out) (out new.out) w.out × Appends (errors old.errors) (errors new.errors) w.errors

@@ -4,10 +4,18 @@
 ghost use Rattle.std.specs.Prelude.{◌≡◌, take, OnOk, IfSome, Some};
 ghost use Rattle.std.specs.Io.KnownBytes.{Appends};
 ghost use Rattle.printing.specs.Printed.{numbers_line, events_text, reader_refusal, refused_line, over_line};
+ghost use Rattle.printing.specs.Printed.{Writes, answered};
 
 use reading::{EVENT_NUMBERS, code};
 use std::io::Write;
 use std::{fmt, io};
+
+// Where a program writes: its output, and where it tells its errors.
+#[derive(Drop)]
+pub struct Ends<W, E> {
+    pub out: W,
+    pub errors: E,
+}
 
 // Numbers on one line.
 pub fn write_line<W: Write>(to: &mut W, numbers: &[u32]) -> io::Result<()>
@@ -70,6 +78,25 @@ pub fn write_refused<W: Write, D: fmt::Display>(
         (λ text. Appends (W.contents to.old) (W.contents to.new) (refused_line code place text))) }
 {
     writeln!(to, "refused {code} at {place}: {meaning}")
+}
+
+// What is answered: bytes, or why there are none.
+#[tactic(auto, unfolding(crate::specs::Printed::Writes))]
+pub fn write_answer<W: Write, E: Write, D: fmt::Display>(
+    ends: &mut Ends<W, E>,
+    code: u32,
+    place: u64,
+    meaning: &D,
+    bytes: &[u8],
+) -> io::Result<()>
+    ensures { OnOk result (IfSome (D.output meaning.now) (λ text. Writes W.contents E.contents
+        ends.old ends.new (answered code place text bytes.now))) }
+{
+    if code == 0 {
+        ends.out.write_all(bytes)
+    } else {
+        write_refused(&mut ends.errors, code, place, meaning)
+    }
 }
 
 // That an input is over a limit.

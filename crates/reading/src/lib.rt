@@ -44,7 +44,7 @@ pub struct Line {
 }
 
 // A byte place, of the text or of the label room.
-#[derive(Clone, Copy)]
+#[derive(Clone, Copy, PartialEq, Eq, PartialOrd, Ord)]
 pub struct Place(pub u32);
 
 // A link number: links count from 0 in the order in which they close.
@@ -52,7 +52,8 @@ pub struct Place(pub u32);
 pub struct Link(pub u32);
 
 // What an event holds beside its kind and span: the home, from where to where in it, and the link
-// number. It is read out of any record, and so has a number where an Option would be.
+// number. It is put into flat records as it is (`rooms::event_of`), and no home may have a link
+// number: so it has the record's numbers, and not an Option.
 #[derive(Clone, Copy)]
 pub struct Home {
     pub home: u32,
@@ -93,8 +94,8 @@ impl Event {
     }
 }
 
-// The sorts of openers. Those written with a brace are one-way; `*`, `_`, `^`, `~` without one and
-// the quotes are two-way.
+// The sorts of openers. `*`, `_`, `^`, `~` without a brace, and quotes with one or without, are
+// two-way; all others are one-way.
 #[derive(Clone, Copy)]
 pub enum Sort {
     Span,
@@ -252,8 +253,9 @@ pub enum DelimEventKind {
 
 // An open verbatim: the place of its enter in the queue, the length of its run, whether non-blank
 // content was seen, whether the last of it was a backtick run, how long the queue was just behind
-// it, and whether the opener stands on the current line. How long the queue was is no part of an
-// Option with the run: of every open verbatim it says where the blanks at its end begin.
+// it, and whether the opener stands on the current line. The definition has run and length apart:
+// the length says of every open verbatim where the blanks at its end begin, whatever the last
+// content was.
 #[derive(Clone, Copy)]
 pub struct Verbatim {
     pub event: usize,

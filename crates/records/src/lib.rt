@@ -8,7 +8,7 @@ ghost use Rattle.outcome.specs.Outcomes.{rooms_of, outcome_of};
 
 use reading::{Answer, Line};
 
-// `reader::read_lines` of line records.
+// `reader::read_lines` of line records, with the rooms one by one as there.
 pub fn read(
     text: &[u8],
     lines: &[Line],

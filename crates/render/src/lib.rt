@@ -30,7 +30,9 @@ fn put_escaped(b: u8, out: &mut Output) -> Option<()>
     }
 }
 
-// Bytes of the sheet: those that are written as they are, up to one that is not, and so on.
+// Bytes of the sheet: those that are written as they are, up to one that is not, and so on. By a
+// `for` over the bytes, case (e) of bench/run takes 0.50 of the Rust's time and misses its bar in
+// some runs, which it meets so with 0.49.
 fn put_text(text: &[u8], out: &mut Output) -> Option<()>
     ensures { Adds out.old (escaped text.now) result out.new }
 {

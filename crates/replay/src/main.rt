@@ -74,7 +74,8 @@ fn replay_counts<F: Fn(usize) -> Counts>(sample: &mut Sample, split: F) -> bool
     (c.first as u64 == first) & (c.second as u64 == second)
 }
 
-// The sort of the case says which; each arm has a check and a function of its own.
+// The sort of the case says which: of tokens, of a scan or of a split, with the function that is
+// tried.
 fn replay_case(sample: &mut Sample) -> bool {
     match sample.number() {
         0 => replay_tokens(sample),
@@ -105,7 +106,7 @@ fn replay(bytes: &[u8]) -> Report {
     Report { cases, differ }
 }
 
-// The room is the program's: `replay_input` is shared, and what it is lent and replays is not.
+// The room is made here: as an array within `replay_input` the check runs out of stack.
 fn main(rt: HostRuntime) -> io::Result<()> {
     let mut room = [0u8; 524288];
     stored::replay_input(&mut rt.reader(), &mut io::writer(&rt), &mut room, replay)

@@ -113,6 +113,7 @@ impl Rooms<'_> {
     }
 }
 
+// A number of 32 bits. `stored::byte` has another type and bound: a cast must lose no bits.
 fn small(n: u64) -> u32 {
     (n % 4294967296) as u32
 }
@@ -195,7 +196,7 @@ fn replay(bytes: &[u8]) -> Report {
     Report { cases, differ }
 }
 
-// The room is the program's: `replay_input` is shared, and what it is lent and replays is not.
+// The room is made here: as an array within `replay_input` the check runs out of stack.
 fn main(rt: HostRuntime) -> io::Result<()> {
     let mut room = [0u8; 524288];
     stored::replay_input(&mut rt.reader(), &mut io::writer(&rt), &mut room, replay)

@@ -34,7 +34,9 @@ pub struct Status {
 }
 
 // The parser: what it is at, and the rooms that are lent to it, which hold the records and label
-// bytes that it counts.
+// bytes that it counts. That there is room for more is asked call by call, since a push spends it.
+// The line is lent beside it: lines begin and end within a parser's life, and `inline::finish` has
+// none.
 #[derive(Drop)]
 pub struct Parser<'q, 'o, 'l> {
     pub at: Status,
@@ -46,9 +48,9 @@ pub struct Parser<'q, 'o, 'l> {
     ghost labels_held: { at.labels ≤ length labels.now },
 }
 
-// A line: its bytes, where it starts, and the byte before it, 0 at the text's start. It is of the line
-// alone: a label may lie in another one, and who makes labels has the text beside it. What is asked of
-// a line and a token in it differs from function to function, so that the two are lent apart.
+// A line: its bytes, where it starts, and the byte before it, 0 at the text's start. It is of the
+// line alone: a label may lie in another one, and who makes labels has the text beside it. Of a
+// line and a token in it functions ask `Fits` or less: a type of both would ask more of those.
 #[derive(Clone, Copy)]
 pub struct View<'s> {
     pub bytes: &'s [u8],
@@ -57,7 +59,8 @@ pub struct View<'s> {
 }
 
 impl<'s> View<'s> {
-    // The place of the i-th byte.
+    // The place of the i-th byte. That it fits is asked of the byte: said of the line, it would
+    // have to be asked that the byte is in it.
     pub fn place(&self, i: usize) -> Place
         requires { self.now.base + i < 2 ^ 32 }
         ensures { result ≡ numbers.place (self.now.base + i) }
@@ -167,8 +170,8 @@ impl<'q, 'o, 'l> Parser<'q, 'o, 'l> {
         }
     }
 
-    // The event at place i of the queue. It asks that the queue holds such a record, as those below do:
-    // a place of one that is not counted any more is none less.
+    // The event at place i of the queue. It asks that the queue's room holds such a record, as
+    // those below do: that there are more than i events would ask more.
     pub fn event_at(&self, i: usize) -> Event
         requires { i * queue_numbers + queue_numbers ≤ length self.now.queue.now }
         ensures { result ≡ event_at self.now.queue.now i }
@@ -188,21 +191,20 @@ impl<'q, 'o, 'l> Parser<'q, 'o, 'l> {
         self.at.last = last;
     }
 
-    // Another kind and home for the event at place i, whose span stays. This and the two below
-    // differ in what they make of the event: as one function they would take a closure, which each
-    // contract would have to tell as a function of events.
+    // Another kind and home for the event at place i, whose span stays.
     pub fn set_kind(&mut self, i: usize, kind: u32, h: Home)
         requires { i * queue_numbers + queue_numbers ≤ length self.old.queue.now }
         ensures all { (n : ℕ) → events n self.new.queue.now ≡ amend (becomes kind h) i (events n self.old.queue.now) }
         ensures queued { Queued self.old self.new (staying self.old (amending (becomes kind h) i)) }
         ensures status { self.new.at ≡ self.old.at }
     {
-        let queue = &mut *self.queue;
-        let e = event_at(queue, i);
-        slots::store::<QUEUE_NUMBERS>(queue, i, event_of(kind, e.start, e.end, h));
+        let end = self.event_at(i).end;
+        self.set_kind_to(i, kind, h, end);
     }
 
-    // The same, with another end.
+    // The same, with another end. This and the one below differ in what they make of the event: as
+    // one function they would take a closure, of which a contract has a relation, and `amending` is
+    // of a function of events.
     pub fn set_kind_to(&mut self, i: usize, kind: u32, h: Home, end: Place)
         requires { i * queue_numbers + queue_numbers ≤ length self.old.queue.now }
         ensures all { (n : ℕ) → events n self.new.queue.now ≡ amend (becomes_to kind h end.0) i (events n self.old.queue.now) }

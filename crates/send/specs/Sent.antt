@@ -1,10 +1,10 @@
 -- What `./pack` writes (document 02, L4). The packed list of a sheet: the reader's refusal, the output being as it was; or the list of the events that are handed out.
-use Rattle.std.specs.Prelude.{ℕ, ◌*◌, ◌==◌, List, true, false, eqb, length, take, replicate, nat_lt, if◌then◌else◌}
+use Rattle.std.specs.Prelude.{ℕ, ◌*◌, List, true, false, eqb, length, take, replicate, nat_lt, if◌then◌else◌}
 use Rattle.reading.specs.Events.{event_numbers}
 use Rattle.reading.specs.Questions.{Outcome, outcome}
 use Rattle.packed.specs.declared.PackedAnswer.{PackedAnswer}
 use Rattle.packed.specs.Calls.{Call, call, refusal, packing}
-use Rattle.printing.specs.Printed.{Written, on_out, on_errors, reader_refusal, refused_line, over_line}
+use Rattle.printing.specs.Printed.{Written, on_errors, answered, reader_refusal, over_line}
 use Rattle.input.specs.Lines.{text_lines}
 use Rattle.input.specs.Rooms.{sheet_rooms}
 
@@ -17,7 +17,7 @@ sent o out =
 
 -- the bytes of a list, or why there is none
 abbrev pub answer_text : PackedAnswer → List ℕ → Written
-answer_text a out = if a.code == 0 then on_out (take a.count out) else on_errors (refused_line a.code a.place (reader_refusal a.code))
+answer_text a out = answered a.code a.place (reader_refusal a.code) (take a.count out)
 
 abbrev pub call_text : Call → Written
 call_text c = answer_text c.answer c.room

@@ -2,16 +2,16 @@
 // The program behind `./pack`: a sheet of its input is read, and the list of its events is written,
 // packed, or else why there is none.
 ghost use Rattle.std.specs.Prelude.{◌≡◌, ◌/◌, ◌≤◌, length, OnOk, IfSome};
-ghost use Rattle.std.specs.Io.KnownBytes.{Appends};
+ghost use Rattle.printing.specs.Printed.{Writes};
 ghost use Rattle.reading.specs.Events.{event_numbers};
 ghost use Rattle.reading.specs.Questions.{outcome};
 ghost use Rattle.packed.specs.Calls.{call, enough_bytes};
 ghost use Rattle.input.specs.Rooms.{lent};
-ghost use Rattle.send.specs.Sent.{sent, answer_text, packed_within, packed_text, sent_text};
+ghost use Rattle.send.specs.Sent.{sent, packed_within, packed_text, sent_text};
 
 use input::{BYTES, SheetRooms};
 use packed::PackedAnswer;
-use printing::Refusal;
+use printing::{Ends, Refusal};
 use reading::{EVENT_NUMBERS, Line};
 use std::io;
 use std::io::{Read, Write};
@@ -43,75 +43,54 @@ fn pack_lines(text: &[u8], lines: &[Line], rooms: &mut SheetRooms, out: &mut [u8
     packed::pack(printing::front(&rooms.events, numbers), out)
 }
 
-// What is answered: the bytes of the list, or why there is none.
-fn write_answer<W: Write, E: Write>(
-    to: &mut W,
-    errors: &mut E,
-    answer: PackedAnswer,
-    out: &[u8],
-) -> io::Result<()>
-    ensures out { OnOk result (Appends (W.contents to.old) (W.contents to.new)
-        (answer_text answer out.now).out) }
-    ensures errors { OnOk result (Appends (E.contents errors.old) (E.contents errors.new)
-        (answer_text answer out.now).errors) }
-{
-    if answer.code == 0 {
-        to.write_all(printing::front(out, answer.count as usize))
-    } else {
-        printing::write_refused(errors, answer.code, answer.place, &Refusal(answer.code))
-    }
-}
-
 // The packed list of a sheet, in reading 0, by way of an output room. The definition has the two
 // steps: any room (`packed_within`), and the program's (`packed_text`).
 fn write_packed<W: Write, E: Write>(
-    to: &mut W,
-    errors: &mut E,
+    ends: &mut Ends<W, E>,
     text: &[u8],
     out: &mut [u8],
 ) -> io::Result<()>
     requires short { length text.now ≤ 1000 }
     requires room { 27032 ≤ length out.old }
-    ensures out { OnOk result (Appends (W.contents to.old) (W.contents to.new)
-        (packed_within text.now out.old).out) }
-    ensures errors { OnOk result (Appends (E.contents errors.old) (E.contents errors.new)
-        (packed_within text.now out.old).errors) }
+    ensures { OnOk result (Writes W.contents E.contents ends.old ends.new
+        (packed_within text.now out.old)) }
 {
     let mut room = [Line { start: 0, end: 0 }; BYTES];
     let lines = input::split_lines(text, &mut room);
     let mut rooms = SheetRooms::new();
     let answer = pack_lines(text, lines, &mut rooms, out);
-    write_answer(to, errors, answer, out)
+    printing::write_answer(
+        ends,
+        answer.code,
+        answer.place,
+        &Refusal(answer.code),
+        printing::front(out, answer.count as usize),
+    )
 }
 
 // By way of the program's room.
 #[tactic(auto, unfolding(crate::specs::Sent::packed_text))]
-fn send<W: Write, E: Write>(to: &mut W, errors: &mut E, text: &[u8]) -> io::Result<()>
+fn send<W: Write, E: Write>(ends: &mut Ends<W, E>, text: &[u8]) -> io::Result<()>
     requires { length text.now ≤ 1000 }
-    ensures out { OnOk result (Appends (W.contents to.old) (W.contents to.new)
-        (packed_text text.now).out) }
-    ensures errors { OnOk result (Appends (E.contents errors.old) (E.contents errors.new)
-        (packed_text text.now).errors) }
+    ensures { OnOk result (Writes W.contents E.contents ends.old ends.new (packed_text text.now)) }
 {
     let mut out = [0; LIST_ROOM];
-    write_packed(to, errors, text, &mut out)
+    write_packed(ends, text, &mut out)
 }
 
 // At most 1,000 bytes of input are a sheet. `page::page_input` says why it is a function of its
 // own.
+#[tactic(auto, unfolding(printing::specs::Printed::Writes))]
 pub fn send_input<R: Read, W: Write, E: Write>(
     from: &mut R,
-    to: &mut W,
-    errors: &mut E,
+    ends: &mut Ends<W, E>,
 ) -> io::Result<()>
-    ensures out { IfSome (R.remaining from.old) (λ input. OnOk result
-        (Appends (W.contents to.old) (W.contents to.new) (sent_text input).out)) }
-    ensures errors { IfSome (R.remaining from.old) (λ input. OnOk result
-        (Appends (E.contents errors.old) (E.contents errors.new) (sent_text input).errors)) }
+    ensures { IfSome (R.remaining from.old) (λ input. OnOk result
+        (Writes W.contents E.contents ends.old ends.new (sent_text input))) }
 {
     let mut room = [0; BYTES + 1];
     match input::read_short(from, &mut room)? {
-        Some(text) => send(to, errors, text),
-        None => printing::write_over(errors, BYTES),
+        Some(text) => send(ends, text),
+        None => printing::write_over(&mut ends.errors, BYTES),
     }
 }

@@ -14,8 +14,9 @@ use attr::Validator;
 use reading::Line;
 use rooms::{Parser, Status};
 
-// A list of lines, in whatever it is kept. Text, lines and reading are lent apart: a block at a brace
-// is of no reading, and a question asks one of the three, as document 01 puts it.
+// A list of lines, in whatever it is kept. The parser of a line takes the text with that line
+// alone, so that text and lines are lent apart; a block at a brace and questions 3 and 4 are of no
+// reading.
 pub trait Lines: Copy {
     ghost listed: { Self → List Line };
 
@@ -77,13 +78,12 @@ fn block_at<L: Lines>(text: &[u8], lines: L, i: usize, at: usize) -> bool
     ensures { result ≡ block_at (views text.now (L.listed lines)) at }
 {
     let here = lines.line(i);
-    let mut v = inline::validate(text, at, here.end, Validator::new());
+    let mut v = inline::validate(text, Line { start: at, ..here }, Validator::new());
     for k in i + 1..lines.count() {
         if v.decided() {
             return v.done();
         }
-        let l = lines.line(k);
-        v = inline::validate(text, l.start, l.end, v);
+        v = inline::validate(text, lines.line(k), v);
     }
     v.done()
 }

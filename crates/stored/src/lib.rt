@@ -3,6 +3,7 @@
 // replay them share.
 ghost use Rattle.std.specs.Prelude.{◌≡◌, ◌%◌, min, length, OnOk, Some};
 ghost use Rattle.std.specs.List.{AllZip};
+ghost use Rattle.std.specs.Fn.{FnReturnsAt};
 ghost use Rattle.std.specs.Io.KnownBytes.{Appends};
 ghost use Rattle.stored.specs.Numbers.{number_at, numbers, behind};
 ghost use Rattle.stored.specs.Reports.{report_text, report_line, Reported};
@@ -104,7 +105,8 @@ pub fn write_report<W: Write>(to: &mut W, r: Report) -> io::Result<()>
     writeln!(to, "{r}")
 }
 
-// The report of what an input holds, of which no more than the room is read.
+// The report of what an input holds, of which no more than the room is read. What is replayed is
+// what was read, and the report that is written is the answer.
 pub fn replay_input<R: Read, W: Write, F: Fn(&[u8]) -> Report>(
     from: &mut R,
     to: &mut W,
@@ -112,7 +114,8 @@ pub fn replay_input<R: Read, W: Write, F: Fn(&[u8]) -> Report>(
     replay: F,
 ) -> io::Result<()>
     requires { F.IsAlwaysCallable replay }
-    ensures { OnOk result (Reported (W.contents to.old) (W.contents to.new)) }
+    ensures { OnOk result (Reported (FnReturnsAt F.Fn replay) (length room.old) (R.remaining from.old)
+        (R.remaining from.new) (W.contents to.old) (W.contents to.new)) }
 {
     let n = input::read_full(from, room)?;
     write_report(to, replay(&room[..n]))

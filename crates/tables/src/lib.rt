@@ -1,6 +1,7 @@
 #![tactic(auto)]
-// What tokens and openers are to the parser: each a flat `match`, row by row the definition's
-// table. Kinds of events and containers are the numbers that `reading` names.
+// What tokens and openers are to the parser: flat matches, row by row the definition's tables, and
+// questions that are asked of them. Kinds of events and containers are the numbers that `reading`
+// names.
 ghost use Rattle.std.specs.Prelude.{◌≡◌};
 ghost use Rattle.reading.specs.Containers;
 ghost use Rattle.reading.specs.Events.{str};

@@ -1,6 +1,7 @@
 #![tactic(auto)]
 // Prints the tokens of the first line of standard input: start, end and kind of each. At most 1,000
 // bytes are read.
+use input::BYTES;
 use lex::{Cursor, Kind};
 use std::io::Write;
 use std::{fmt, io};
@@ -23,10 +24,7 @@ impl fmt::Display for Named {
 
 // The first line, its newline included.
 fn first_line(text: &[u8]) -> &[u8] {
-    match text.iter().position(|b| *b == b'\n') {
-        Some(n) => &text[..n + 1],
-        None => text,
-    }
+    text.split_inclusive(|b| *b == b'\n').next().unwrap_or(text)
 }
 
 // A token is at least one byte, so there are at most as many as bytes: the loop ends without a law
@@ -46,7 +44,7 @@ fn write_tokens<W: Write>(to: &mut W, line: &[u8]) -> io::Result<()> {
 }
 
 fn main(rt: HostRuntime) -> io::Result<()> {
-    let mut text = [0u8; 1000];
+    let mut text = [0u8; BYTES];
     let n = input::read_full(&mut rt.reader(), &mut text)?;
     write_tokens(&mut io::writer(&rt), first_line(&text[..n]))
 }

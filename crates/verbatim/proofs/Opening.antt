@@ -7,7 +7,6 @@ use native.Mathlib.Omega.{arith}
 use lib.Dec.{eqb}
 use lib.ListN.{length}
 use Rattle.reading.specs.declared.Event.{Event}
-use Rattle.reading.specs.declared.Home.{Home}
 use Rattle.reading.specs.declared.Place.{Place}
 use Rattle.reading.specs.declared.Verbatim.{Verbatim}
 use Rattle.reading.specs.Events.{place, homed, nowhere, shorter}
@@ -43,8 +42,8 @@ opened-small n =
 
 -- a run opens: the dollars leave the queue, the enter is put behind it, and the lexer goes on in verbatim
 module _ (v : View) (h : Span) (p r t : Parser) (at to : Place) (isat : at ≡ place (v.base + h.from)) (isto : to ≡ place (v.base + h.to))
-    (d : ℕ) (isd : d ≡ taken p.at.last at.0) (k : ℕ) (isk : k ≡ opened_as d) (home : Home) (ish : home ≡ nowhere)
-    (e : Event) (ise : e ≡ homed (32 + k) home (at.0 - d) to.0)
+    (d : ℕ) (isd : d ≡ taken p.at.last at.0) (k : ℕ) (isk : k ≡ opened_as d)
+    (e : Event) (ise : e ≡ homed (32 + k) nowhere (at.0 - d) to.0)
     (c : Queued p r (staying p (leaving d))) (g : Queued r t (staying r (puts (e ∷ []) None))) where
   pub opens-put : Queued p t (staying p (λ s. puts (e ∷ []) None (leaving d s)))
   opens-put = queued-on p r t _ _ c g
@@ -56,7 +55,7 @@ module _ (v : View) (h : Span) (p r t : Parser) (at to : Place) (isat : at ≡ p
       ≡ opens_verbatim v (here h p.at) (state p)
   opens-turn =
       ap (λ (x : Turn). record { cursor = flagged true x.cursor; state = with_inside w x.state }) opens-put.changed.same
-      ∙ rw (ise, ish, isk, isto, these, isat, long, keep)
+      ∙ rw (ise, isk, isto, these, isat, long, keep)
     where
       w : Option Verbatim
       w = Some record { event = p.at.events; len = h.to - h.from; seen = false; run = false; keep = p.at.events + 1; here = true }

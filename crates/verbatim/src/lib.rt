@@ -15,7 +15,7 @@ ghost use Rattle.rooms.specs.Steps.{state, Queued, Room, staying};
 ghost use Rattle.verbatim.specs.Opened.{Opened, OpenedBy, Dollars, Begun, kind_of, headed, leaving};
 
 use lex::{Cursor, Token};
-use reading::{Event, Last, Place, Verbatim, container, kind};
+use reading::{Event, Last, NOWHERE, Place, Verbatim, container, kind};
 use rooms::{Parser, Span, View};
 
 // What an event is by its kind: an enter or an exit, with its container, or neither. `let .. else`
@@ -70,7 +70,7 @@ fn taken(last: Option<Last>, at: Place) -> u32
     ensures { result ≡ spec.taken last at.0 }
 {
     match last {
-        Some(l) if l.end.0 == at.0 => l.dollars,
+        Some(l) if l.end == at => l.dollars,
         _ => 0,
     }
 }
@@ -115,7 +115,7 @@ pub fn opens_verbatim(p: &mut Parser, v: &View, h: Span)
         kind::ENTER + opened_as(dollars),
         Place(at.0 - dollars),
         v.place(h.to),
-        atoms::nowhere(),
+        NOWHERE,
     );
     p.push(e, None);
     p.at.cursor = flagged(p.at.cursor, true);
@@ -149,7 +149,8 @@ fn exit_of(p: &Parser, w: Verbatim, start: Place, end: Place) -> Event
     }
 }
 
-// The end of a verbatim: its exit behind the first n events.
+// The end of a verbatim: its exit behind the first n events. `Opened` is of the five functions that
+// take an open verbatim: as an invariant of the parser it would be asked of all.
 fn exits(p: &mut Parser, w: Verbatim, n: usize, start: Place, end: Place)
     requires opened { Opened w p.old }
     requires n_le_events { n ≤ p.old.at.events }

@@ -6,7 +6,7 @@ ghost use Rattle.outcome.specs.Lending.{held, left_by, Lent};
 ghost use Rattle.listing.specs.Listing.{listed};
 ghost use Rattle.markup.specs.Markup.{fragment};
 ghost use Rattle.verdict.specs.Fragments.{barred as barred_of, first_barred, refusal as refusal_of, fragmented_of, behind};
-ghost use Rattle.verdict.specs.Judging.{shown, shown_as, code_of, place_of, answer_of, Listed};
+ghost use Rattle.verdict.specs.Judging.{shown, shown_as, answer_of, Listed};
 
 use outcome::Rooms;
 use output::OUTPUT_ROOM;
@@ -36,31 +36,14 @@ enum Refusal {
     OutputRoom,
 }
 
-impl Refusal {
-    fn code(self) -> u32
-        ensures { result ≡ code_of self }
-    {
-        match self {
-            Refusal::Linked(_) => LINKED,
-            Refusal::OutputRoom => OUTPUT_ROOM,
-        }
-    }
-
-    fn place(self) -> u32
-        ensures { result ≡ place_of self }
-    {
-        match self {
-            Refusal::Linked(at) => at.0,
-            Refusal::OutputRoom => 0,
-        }
-    }
-}
-
 impl From<Refusal> for FragmentAnswer {
     ghost from_gives = { λ r a. a ≡ answer_of r };
 
     fn from(r: Refusal) -> FragmentAnswer {
-        refused(r.code(), r.place())
+        match r {
+            Refusal::Linked(at) => refused(LINKED, at.0),
+            Refusal::OutputRoom => refused(OUTPUT_ROOM, 0),
+        }
     }
 }
 

@@ -3,4 +3,4 @@ use Rattle.encoder.proofs.Putting.{Puts}
 use Rattle.encoder.proofs.put_list.Given as goal
 
 abbrev pub invariant-loop-i : goal.invariant-loop-i
-invariant-loop-i l = Puts l.events l.fn.room l.initial.out l.out l.i l.prev l.fits
+invariant-loop-i l = Puts l.events l.fn.room l.initial.out l.out l.i l.prev.0 l.fits

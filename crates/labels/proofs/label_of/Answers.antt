@@ -11,7 +11,7 @@ home_in_room-requires-clause-built_bound c =
 pub returns-then-by_text : goal.returns-then-by_text
 returns-then-by_text c =
     let fit : c.args.fits ≡ true = search rules in
-    let which = label-words c.args.text.now c.args.queue.now c.args.n c.args.d _ c.event_at-e.ensures c.requires.event_lt_n c.if-by_text.true in
+    let which = label-words c.args.text.now c.args.queue.now c.args.n c.args.d _ c.event_at-e.ensures c.requires.event_lt_n (rw c.eq.ensures at c.if-by_text.true) in
     rw (c.home_in_room.ensures, fit, which) (built-stands c.args.labels.now c.args.used c.requires.used_in_bounds _ _ _ _ c.words-built.ensures)
 
 pub home_in_room-requires-2-clause-built_bound : goal.home_in_room-requires-2-clause-built_bound
@@ -21,5 +21,5 @@ home_in_room-requires-2-clause-built_bound c =
 pub returns : goal.returns
 returns c =
     let fit : c.args.fits ≡ true = search rules in
-    let which = label-lines c.args.text.now c.args.queue.now c.args.n c.args.d _ c.event_at-e.ensures c.if-by_text.false _ refl c.if-by_text-d.false in
+    let which = label-lines c.args.text.now c.args.queue.now c.args.n c.args.d _ c.event_at-e.ensures (rw c.eq.ensures at c.if-by_text.false) _ refl (rw c.eq.ensures at c.if-by_text-d.false) in
     rw (c.home_in_room-2.ensures, fit, which) (built-stands c.args.labels.now c.args.used c.requires.used_in_bounds _ _ _ _ c.lines-built.ensures)

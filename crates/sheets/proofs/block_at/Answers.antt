@@ -27,15 +27,15 @@ validate-v-requires-in-loop-k g c =
         line-ordered c.requires c.loop-k.k some,
         later,
         ap (λ (z : Line). z.end) c.line-here.ensures,
-        ap (λ (z : Line). z.start) c.line-l.ensures,
-        ap (λ (z : Line). z.end) c.line-l.ensures,
+        ap (λ (z : Line). z.start) c.line.ensures,
+        ap (λ (z : Line). z.end) c.line.ensures,
       );
-      end_in_bounds = omega (arith, line-within c.requires c.loop-k.k some, ap (λ (z : Line). z.end) c.line-l.ensures);
+      end_in_bounds = omega (arith, line-within c.requires c.loop-k.k some, ap (λ (z : Line). z.end) c.line.ensures);
     }
 
 pub loop-k-preserved : goal.loop-k-preserved
 loop-k-preserved g c =
-    asked-next c.loop-k.invariant (omega (arith, c.loop-k-test.true, c.count-k-end.ensures)) c.line-l.ensures
+    asked-next c.loop-k.invariant (omega (arith, c.loop-k-test.true, c.count-k-end.ensures)) c.line.ensures
     c.validate-v-in-loop-k.ensures
 
 pub returns : goal.returns

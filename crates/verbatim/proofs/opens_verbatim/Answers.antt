@@ -15,9 +15,9 @@ returns c =
     let h = c.args.h in
     let p = c.args.p.now in
     queued-to p _ _ _ _
-    (opens-put v h p _ _ _ _ c.place-at.ensures c.place.ensures _ c.taken-dollars.ensures _ c.opened_as.ensures _ c.nowhere.ensures
+    (opens-put v h p _ _ _ _ c.place-at.ensures c.place.ensures _ c.taken-dollars.ensures _ c.opened_as.ensures
     _ c.event_of-e.ensures c.leave.ensures.queued c.push.ensures.queued)
     refl refl refl refl refl
     (rw c.flagged-p.ensures
-    (opens-turn v h p _ _ _ _ c.place-at.ensures c.place.ensures _ c.taken-dollars.ensures _ c.opened_as.ensures _ c.nowhere.ensures
+    (opens-turn v h p _ _ _ _ c.place-at.ensures c.place.ensures _ c.taken-dollars.ensures _ c.opened_as.ensures
     _ c.event_of-e.ensures c.leave.ensures.queued c.push.ensures.queued))
