@@ -40,30 +40,33 @@ row-more kind w (suc n) at =
     there n = omega (arith, suc-mul n w)
 
 -- a row that was begun, with k events put behind those of the parser p
-pub record Begun (base kind w i : ℕ) (p r : Parser) (k : ℕ) : Type 0 where
+pub record Begun (base kind w i : ℕ) (p r : Parser) (at k : ℕ) : Type 0 where
+  pub place : at ≡ i + k * w
   pub count : r.at.events ≡ p.at.events + k
   pub put : Queued p r (staying p (puts (row kind w k (base + i)) None))
 
 module _ (base kind w i : ℕ) (p r : Parser) where
-  pub begun-more : (k : ℕ) → Begun base kind w i p r k → (e : Event) → e ≡ event kind (base + (i + k * w)) (base + (i + k * w + w))
-      → (t : Parser) → Queued r t (staying r (puts (e ∷ []) None)) → t.at.events ≡ r.at.events + 1 → Begun base kind w i p t (k + 1)
-  begun-more k b e ise t q n =
+  pub begun-more : (at k : ℕ) → Begun base kind w i p r at k → (e : Event) → e ≡ event kind (base + at) (base + (at + w))
+      → (t : Parser) → Queued r t (staying r (puts (e ∷ []) None)) → t.at.events ≡ r.at.events + 1 → Begun base kind w i p t (at + w) (k + 1)
+  begun-more at k b e ise t q n =
       record {
+        place = omega (arith, suc-mul k w, b.place);
         count = omega (arith, n, b.count);
         put = rw (add-one, row-more kind w k (base + i), ← there, ← behind, ← ise) (puts_then p r t _ (e ∷ []) None None b.put q);
       }
     where
-      there : base + (i + k * w) ≡ base + i + k * w
-      there = omega arith
+      there : base + at ≡ base + i + k * w
+      there = omega (arith, b.place)
 
-      behind : base + (i + k * w + w) ≡ base + (i + k * w) + w
+      behind : base + (at + w) ≡ base + at + w
       behind = omega arith
 
 -- no event of it is put yet
-pub begun-first : (base kind w i : ℕ) (p r : Parser) → Queued p r (staying p (noting (state p).queue None)) → Begun base kind w i p r 0
+pub begun-first : (base kind w i : ℕ) (p r : Parser) → Queued p r (staying p (noting (state p).queue None)) → Begun base kind w i p r i 0
 unfolding row
 begun-first base kind w i p r q =
     record {
+      place = omega arith;
       count = stepped-events p r _ (changed-stepped p r _ q.changed) ∙ rows-length event_at p.at.events p.queue.now ∙ omega arith;
       put = queued-as p r _ q _ (ap (λ (es : List Event). staying p (noting es None) (state p)) (sym (append-nil (state p).queue)));
     }

@@ -63,7 +63,9 @@ pub fn put(p: &mut Parser, v: &View, kind: u32, h: Span)
     p.push(v.homed(kind, NOWHERE, h.from, h.to), last_of(v, kind, h));
 }
 
-// So many events of a kind, each w bytes wide, from the i-th byte of the line on.
+// So many events of a kind, each w bytes wide, from the i-th byte of the line on. With the place as
+// a product of the turn, case (l) of bench/run takes a tenth more, and (h) in lines misses its bar
+// in two runs of three, which it meets so.
 fn row(p: &mut Parser, v: &View, kind: u32, w: usize, n: usize, i: usize)
     requires w_bound { v.now.base + i + n * w ≤ largest }
     requires room { Room n p.old }
@@ -71,9 +73,10 @@ fn row(p: &mut Parser, v: &View, kind: u32, w: usize, n: usize, i: usize)
     ensures count { p.new.at.events ≡ p.old.at.events + n }
 {
     p.at.last = None;
-    for k in 0..n {
-        let at = i + k * w;
+    let mut at = i;
+    for _ in 0..n {
         p.push(v.homed(kind, NOWHERE, at, at + w), None);
+        at += w;
     }
 }
 

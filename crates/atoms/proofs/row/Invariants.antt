@@ -2,5 +2,5 @@
 use Rattle.atoms.proofs.Putting.{Begun}
 use Rattle.atoms.proofs.row.Given as goal
 
-abbrev pub invariant-loop-k : goal.invariant-loop-k
-invariant-loop-k l = Begun l.v.base l.kind l.w l.i l.fn.p l.p l.k
+abbrev pub invariant-loop : goal.invariant-loop
+invariant-loop l = Begun l.v.base l.kind l.w l.i l.fn.p l.p l.at l.counter
