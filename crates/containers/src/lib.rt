@@ -2,7 +2,8 @@
 // Containers, quotes and spans: `parse_container` of the source. A token as a closer, then as an
 // opener, then alone. What is asked of a token, of the opener that it closes and of the label room
 // (`Ready`, `Names`, `LabelRoom`) is no invariant of the parser: what is put spends the first, the
-// second is of one opener, and the third asks more of what is lent than `Parser::new` does.
+// second is of one opener, and the third asks a bound of the lent room, which `Parser::new` does
+// not, and one more link number, which a link spends.
 ghost use Rattle.std.specs.Prelude.{◌≡◌, ℕ, ◌+◌, ◌*◌, ◌^◌, ◌≤◌, ◌<◌, length, IfSome};
 ghost use Rattle.lex.specs.Lexer.{peek_of};
 ghost use Rattle.lex.specs.declared.lex.Cursor.{Cursor};

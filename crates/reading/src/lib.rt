@@ -52,8 +52,8 @@ pub struct Place(pub u32);
 pub struct Link(pub u32);
 
 // What an event holds beside its kind and span: the home, from where to where in it, and the link
-// number. It is put into flat records as it is (`rooms::event_of`), and no home may have a link
-// number: so it has the record's numbers, and not an Option.
+// number. It is put into flat records as it is (`rooms::event_of`), and where there is no home
+// there may be a link number still: so it has the record's numbers, and is no Option.
 #[derive(Clone, Copy)]
 pub struct Home {
     pub home: u32,

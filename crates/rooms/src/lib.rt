@@ -171,7 +171,7 @@ impl<'q, 'o, 'l> Parser<'q, 'o, 'l> {
     }
 
     // The event at place i of the queue. It asks that the queue's room holds such a record, as
-    // those below do: that there are more than i events would ask more.
+    // `set_kind`, `set_kind_to` and `shorten` do: that there are more than i events would ask more.
     pub fn event_at(&self, i: usize) -> Event
         requires { i * queue_numbers + queue_numbers ≤ length self.now.queue.now }
         ensures { result ≡ event_at self.now.queue.now i }

@@ -1,7 +1,8 @@
 #![tactic(auto)]
 // What a container's enter and exit write, and an atom: the bytes that are the same in every sheet.
 // Enter and exit are of the same containers: by one table of pairs for both, case (e) of bench/run
-// takes 0.51 of the Rust's time and misses its bar, which it meets so with 0.49.
+// takes 0.51 of the Rust's time and misses its bar, which it meets so with 0.49. An atom's numbers
+// are kinds and no containers, and so are a table of their own.
 ghost use Rattle.output.specs.Written.{Adds};
 ghost use Rattle.markup.specs.Markup.{opening, closing, find, atom};
 

@@ -149,8 +149,8 @@ fn exit_of(p: &Parser, w: Verbatim, start: Place, end: Place) -> Event
     }
 }
 
-// The end of a verbatim: its exit behind the first n events. `Opened` is of the five functions that
-// take an open verbatim: as an invariant of the parser it would be asked of all.
+// The end of a verbatim: its exit behind the first n events. Five functions ask `Opened`, of the
+// open verbatim that each is given: as an invariant of the parser it would be asked of all.
 fn exits(p: &mut Parser, w: Verbatim, n: usize, start: Place, end: Place)
     requires opened { Opened w p.old }
     requires n_le_events { n ≤ p.old.at.events }
