@@ -1,10 +1,10 @@
 #![tactic(auto)]
 // What the programs print: numbers and events, a line each, and why a sheet is refused, in plain
 // words.
-ghost use Rattle.std.specs.Prelude.{◌≡◌, take, OnOk, IfSome, Some};
+ghost use Rattle.std.specs.Prelude.{◌≡◌, ◌≢◌, [], take, OnOk, IfSome, Some};
 ghost use Rattle.std.specs.Io.KnownBytes.{Appends};
 ghost use Rattle.printing.specs.Printed.{numbers_line, events_text, reader_refusal, refused_line, over_line};
-ghost use Rattle.printing.specs.Printed.{Writes, answered};
+ghost use Rattle.printing.specs.Printed.{Writes, on_out, answered};
 
 use reading::{EVENT_NUMBERS, code};
 use std::io::Write;
@@ -80,7 +80,8 @@ pub fn write_refused<W: Write, D: fmt::Display>(
     writeln!(to, "refused {code} at {place}: {meaning}")
 }
 
-// What is answered: bytes, or why there are none.
+// What is answered: bytes, or why there are none. What the output gets is said whatever is known of
+// how the meaning prints.
 #[tactic(auto, unfolding(crate::specs::Printed::Writes))]
 pub fn write_answer<W: Write, E: Write, D: fmt::Display>(
     ends: &mut Ends<W, E>,
@@ -89,8 +90,11 @@ pub fn write_answer<W: Write, E: Write, D: fmt::Display>(
     meaning: &D,
     bytes: &[u8],
 ) -> io::Result<()>
-    ensures { OnOk result (IfSome (D.output meaning.now) (λ text. Writes W.contents E.contents
-        ends.old ends.new (answered code place text bytes.now))) }
+    ensures given { code ≡ 0 → OnOk result (Writes W.contents E.contents ends.old ends.new
+        (on_out bytes.now)) }
+    ensures kept { code ≢ 0 → OnOk result (Appends (W.contents ends.old.out) (W.contents ends.new.out) []) }
+    ensures as_defined { OnOk result (IfSome (D.output meaning.now) (λ text. Writes W.contents
+        E.contents ends.old ends.new (answered code place text bytes.now))) }
 {
     if code == 0 {
         ends.out.write_all(bytes)
