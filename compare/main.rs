@@ -4,7 +4,7 @@
 //! `run [N [SEED]]`: compares, with N random sheets (20 million if it is left out), as many packed lists of each kind and half as many random lines,
 //! other ones for another seed.
 //! Status 1 at the first difference.
-//! `run lists [SEED]`: compares packed lists alone, a million of each kind.
+//! `run lists [N [SEED]]`: compares packed lists alone, N of each kind (a million if it is left out).
 //! `run rows [SEED]`: prints the sample of the Rust's answers that the definition of a reading is computed on, `crates/reading/proofs/Sampled.antt`.
 //! `run sample`: prints the sample of the Rust's answers that `crates/replay` replays.
 //! `run sheets`: prints the sheets, with the Rust's answers, that `crates/replay_sheets` replays.
@@ -95,12 +95,13 @@ fn compare(random: u64, seed: u64) -> bool {
 }
 
 fn main() {
-    let word = std::env::args().nth(1);
-    let second = std::env::args().nth(2);
-    let seed = || second.as_deref().map_or(0x5eed, |n| n.parse().expect("a seed"));
+    let [word, second, third] = [1, 2, 3].map(|i| std::env::args().nth(i));
+    let seed_of = |word: &Option<String>| word.as_deref().map_or(0x5eed, |n| n.parse().expect("a seed"));
+    let number_of = |word: &Option<String>, most| word.as_deref().map_or(most, |n| n.parse().expect("a number of inputs"));
+    let seed = || seed_of(&second);
     let mut right = true;
     match word.as_deref() {
-        Some("lists") => right = lists::compare(&mut Packer::new(seed()), 1_000_000, seed()),
+        Some("lists") => right = lists::compare(&mut Packer::new(seed_of(&third)), number_of(&second, 1_000_000), seed_of(&third)),
         Some("rows") => rows::print(seed()),
         Some("sample") => sample::print(),
         Some("sheets") => stored::print(),
@@ -110,7 +111,7 @@ fn main() {
         Some("unpack") => show::print_unpacked(),
         Some("browser") => right = browser::compare(seed()),
         Some("picture") => right = picture::save(second.as_deref().expect("a file").as_ref()),
-        number => right = compare(number.map_or(20_000_000, |n| n.parse().expect("a number of random sheets")), seed()),
+        _ => right = compare(number_of(&word, 20_000_000), seed()),
     }
     if !right {
         std::process::exit(1);

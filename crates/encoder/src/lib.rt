@@ -7,7 +7,7 @@ ghost use Rattle.reading.specs.Homes.{has_link};
 ghost use Rattle.packing.specs.Packed.{given, present, fields, packed, idle as idle_of, flaw_of, first_flaw};
 ghost use Rattle.encoder.specs.Encoding.{whole, put_as, Forward};
 
-use groups::put_number;
+use groups::{put_four, put_number};
 use output::Output;
 use packing::LARGEST;
 use reading::{EVENT_NUMBERS, Event, NO_HOME, Place};
@@ -49,10 +49,7 @@ fn put_event(out: &mut Output, prev: Place, e: Event) -> Option<()>
     requires { Forward prev.0 e }
     ensures { Adds out.old (spelled_all (fields prev.0 e)) result out.new }
 {
-    put_number(out, e.kind)?;
-    put_number(out, e.start.0 - prev.0)?;
-    put_number(out, e.end.0 - e.start.0)?;
-    put_number(out, e.home)?;
+    put_four(out, e.kind, e.start.0 - prev.0, e.end.0 - e.start.0, e.home)?;
     put_behind_home(out, e)
 }
 

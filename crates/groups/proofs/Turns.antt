@@ -16,7 +16,7 @@ use Rattle.output.specs.declared.Output.{Output}
 use Rattle.output.specs.Written.{Adds}
 use Rattle.output.proofs.Appending.{Left, left-all, left_less, left-full, left-then}
 use Rattle.groups.specs.declared.NumberError.TheVariants.{Cut, Longer, TooLarge}
-use Rattle.groups.specs.Groups.{groups, spelled, Front, more, front, placed, number_at}
+use Rattle.groups.specs.Groups.{groups, spelled, spelled_all, Front, more, front, placed, number_at}
 use Rattle.groups.proofs.Numbers.{limit}
 
 -- the last group, and one before others
@@ -29,8 +29,12 @@ more-groups : (k n : ℕ) → 128 ≤ n → groups (suc k) n ≡ (128 + n % 128)
 unfolding groups
 more-groups k n h = rw (le-ltb n 128 h, groups)
 
-pub spelled-one : (n : ℕ) → n < 128 → n ∷ [] ≡ spelled n
-spelled-one n h = sym (one-group 4 n h)
+pub spelled_one : (n : ℕ) → n < 128 → n ∷ [] ≡ spelled n
+spelled_one n h = sym (one-group 4 n h)
+
+pub spelled_four : (a b c d : ℕ) → a < 128 → b < 128 → c < 128 → d < 128 → a ∷ b ∷ c ∷ d ∷ [] ≡ spelled_all (a ∷ b ∷ c ∷ d ∷ [])
+unfolding spelled_all
+spelled_four a b c d i j k l = rw (sym (spelled_one a i), sym (spelled_one b j), sym (spelled_one c k), sym (spelled_one d l)) refl
 
 -- at the head of the loop that writes, what is left is a number of at most k + 1 groups
 pub record Rest (o₀ : Output) (n : ℕ) (o : Output) (rest : ℕ) : Type 0 where

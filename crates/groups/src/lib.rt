@@ -1,9 +1,9 @@
 #![tactic(auto)]
 // Numbers in groups of seven bits: the lowest group first, the high bit set on all but the last, in
 // the shortest form.
-ghost use Rattle.std.specs.Prelude.{◌≡◌, ◌+◌, ◌<◌, ◌≤◌, length, drop};
+ghost use Rattle.std.specs.Prelude.{◌≡◌, ◌+◌, ◌<◌, ◌≤◌, [], ◌∷◌, length, drop};
 ghost use Rattle.output.specs.Written.{Adds};
-ghost use Rattle.groups.specs.Groups.{spelled, front, placed, more as more_of, number_at};
+ghost use Rattle.groups.specs.Groups.{spelled, spelled_all, front, placed, more as more_of, number_at};
 
 use output::Output;
 
@@ -24,9 +24,9 @@ pub enum NumberError {
     TooLarge,
 }
 
-// A number behind what is written. Goes by what is left of the number.
+// A number behind what is written, by what is left of it.
 #[tactic(auto, using(crate::proofs::Turns::rest_all, crate::proofs::Turns::rest_turn))]
-pub fn put_number(out: &mut Output, n: u32) -> Option<()>
+fn put_more(out: &mut Output, n: u32) -> Option<()>
     ensures { Adds out.old (spelled n) result out.new }
 {
     let mut rest = n;
@@ -35,6 +35,31 @@ pub fn put_number(out: &mut Output, n: u32) -> Option<()>
         rest /= HIGH;
     }
     out.put_byte(rest as u8)
+}
+
+// A number behind what is written. Most have one group, and are written without the loop.
+#[tactic(auto, using(crate::proofs::Turns::spelled_one))]
+pub fn put_number(out: &mut Output, n: u32) -> Option<()>
+    ensures { Adds out.old (spelled n) result out.new }
+{
+    if n < HIGH {
+        return out.put_byte(n as u8);
+    }
+    put_more(out, n)
+}
+
+// Four numbers behind one another. If each has one group, as mostly, the four are put at once.
+#[tactic(auto, using(crate::proofs::Turns::spelled_four), unfolding(crate::specs::Groups::spelled_all))]
+pub fn put_four(out: &mut Output, a: u32, b: u32, c: u32, d: u32) -> Option<()>
+    ensures { Adds out.old (spelled_all (a ∷ b ∷ c ∷ d ∷ [])) result out.new }
+{
+    if a < HIGH && b < HIGH && c < HIGH && d < HIGH {
+        return out.put(&[a as u8, b as u8, c as u8, d as u8]);
+    }
+    put_number(out, a)?;
+    put_number(out, b)?;
+    put_number(out, c)?;
+    put_number(out, d)
 }
 
 // The number at a place whose first group has the high bit, and is low without it.

@@ -16,7 +16,7 @@ use lib.ListN.{length, drop, length-append, drop_of_length-le}
 use Rattle.reading.specs.declared.Event.{Event}
 use Rattle.groups.specs.Groups.{spelled, spelled_all}
 use Rattle.groups.proofs.Numbers.{limit, Bytes, bytes-none, bytes-append, groups-bytes, groups-size, spelled-append}
-use Rattle.groups.proofs.Turns.{spelled-one}
+use Rattle.groups.proofs.Turns.{spelled_one}
 use Rattle.packing.specs.declared.Fault.TheVariants.{Rest}
 use Rattle.packing.specs.Packed.{largest, given, fields, fields_all, packed, Flawed, flaw_of, first_flaw}
 use Rattle.packing.specs.Unpacked.{Got, a_number, if_sound, events_from, at_end, unpacked}
@@ -202,7 +202,7 @@ sized-low : (n : ℕ) (ns : List ℕ) (a b : ℕ) → n < 128 → Sized ns a b �
 unfolding spelled_all
 sized-low n ns a b h s =
     let z = length-append (spelled n) (spelled_all ns) in
-    let o = ap length (spelled-one n h) in
+    let o = ap length (spelled_one n h) in
     (omega (arith, z, o, s.0), omega (arith, z, o, s.1))
 
 sized-given : (t : Bool) (n : ℕ) (ns : List ℕ) (a b : ℕ) → Sized ns a b → Sized (given t n ns) a (b + 5)

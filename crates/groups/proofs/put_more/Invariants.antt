@@ -1,6 +1,6 @@
--- `groups::put_number` meets its contract, by the laws of `Turns`.
+-- `groups::put_more` meets its contract, by the laws of `Turns`.
 use Rattle.groups.proofs.Turns.{Rest}
-use Rattle.groups.proofs.put_number.Given as goal
+use Rattle.groups.proofs.put_more.Given as goal
 
 abbrev pub invariant-loop-rest : goal.invariant-loop-rest
 invariant-loop-rest l = Rest l.initial.out l.n l.out l.rest
