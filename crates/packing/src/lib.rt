@@ -67,9 +67,9 @@ impl Fault {
     }
 }
 
-// An enter or an exit of one of the containers from one to another. `|` here and below asks all of
-// it, where `||` would branch: the kinds of a sheet take turns, and a branch is often foreseen
-// wrongly. With `||` packing takes an eighth longer.
+// An enter or an exit of one of the containers from one to another. `|` here and below, where `||`
+// would do, so that no branch is made of it: with `||` packing takes an eighth longer
+// (docs/BENCHMARK.md).
 #[tactic(auto, using(std::proofs::lemmas::Bool::Decides::nat_tests))]
 fn marks(k: u32, from: u32, to: u32) -> bool
     requires in_order { from ≤ to }
