@@ -1,6 +1,6 @@
 //! A packed list by document 02, in plain Rust: the same refusals as ours, bytes and events in vectors.
 
-use crate::mivurakol::field::{END, HOME, HOME_END, HOME_START, KIND, LINK, START};
+use crate::mivurakol::field::{END, HOME, HOME_END, HOME_START, KIND, LINE, LINK, START};
 use crate::mivurakol::{home, Event, EVENT_NUMBERS};
 
 fn known(kind: u32) -> bool {
@@ -37,6 +37,7 @@ pub fn pack(events: &[Event], out: &mut Vec<u8>) -> Result<(), usize> {
         put(out, e[KIND]);
         put(out, e[START] - previous);
         put(out, e[END] - e[START]);
+        put(out, e[LINE]);
         put(out, e[HOME]);
         if e[HOME] != home::NONE {
             put(out, e[HOME_START]);
@@ -88,6 +89,7 @@ impl Bytes<'_> {
         }
         e[START] = self.on_top_of(previous)?;
         e[END] = self.on_top_of(e[START])?;
+        e[LINE] = self.number()?;
         let from = self.at;
         e[HOME] = self.number()?;
         if !may_have(e[KIND], e[HOME]) {

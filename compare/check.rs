@@ -7,7 +7,7 @@ use crate::laws::Laws;
 use crate::lending::{Lending, Size, Sort, OUTPUTS, SURE};
 use crate::lists::{damage, DAMAGES};
 use crate::mivurakol::container::{AUTOLINK, DISPLAY_MATH, INLINE_IMAGE, INLINE_MATH, REFERENCE_LINK, SUBSCRIPT};
-use crate::mivurakol::field::{END, KIND, START};
+use crate::mivurakol::field::{END, KIND, LINE, START};
 use crate::mivurakol::{self, code, home, Answer, Event, FragmentAnswer, Line, EXIT};
 use crate::model::Sizes;
 use crate::ours;
@@ -35,6 +35,9 @@ pub struct Counts {
     pub built: u64,
     pub deep: u64,
     pub over: u64,
+    /// With an event on a line behind the first; and with a line on which none starts before one.
+    pub later: u64,
+    pub passed: u64,
     pub lookups: u64,
     /// Packed lists that were damaged.
     pub damaged: u64,
@@ -58,6 +61,12 @@ fn math_over(sheet: &Sheet, events: &[Event]) -> bool {
         sheet.ends.get(next).is_some_and(|&end| end < e[END] as usize)
     };
     events.iter().any(|e| enters(INLINE_MATH, DISPLAY_MATH).contains(&e[KIND]) && over(e))
+}
+
+/// Whether there is a line on which no event starts, before one that has an event.
+fn passes_a_line(events: &[Event]) -> bool {
+    let mut next = 0;
+    events.iter().any(|e| e[LINE] > std::mem::replace(&mut next, e[LINE] + 1))
 }
 
 /// Whether an answer is as expected.
@@ -223,6 +232,8 @@ impl Checker {
         counts.built += u64::from(!labels.is_empty());
         counts.deep += u64::from(depth(events) >= 16);
         counts.over += u64::from(math_over(sheet, events));
+        counts.later += u64::from(events.last().is_some_and(|e| e[LINE] > 0));
+        counts.passed += u64::from(passes_a_line(events));
         self.laws.broken(sheet, reading, events).map_or(Ok(()), Err)?;
         self.packed(reading)
     }

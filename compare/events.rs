@@ -39,6 +39,23 @@ pub const fn event(kind: u32, start: u32, end: u32) -> Event {
     homed(kind, NOWHERE, start, end)
 }
 
+/// An event on a line.
+pub const fn on(line: u32, mut e: Event) -> Event {
+    e[field::LINE] = line;
+    e
+}
+
+/// Of more lines than so many the line of a place is looked for by halves.
+const FEW: usize = 100;
+
+/// The line of an event by document 02, L5: "the index of the first fed line that ends after its span starts; the exit of a verbatim left open carries
+/// the last line's index". By a search through the lines, the first first.
+pub fn locate(e: &mut Event, ends: &[usize]) {
+    let behind = |end: usize| end > e[field::START] as usize;
+    let line = if ends.len() > FEW { ends.partition_point(|&end| !behind(end)) } else { ends.iter().take_while(|&&end| !behind(end)).count() };
+    e[field::LINE] = line.min(ends.len() - 1) as u32;
+}
+
 /// The enters of the containers from one to another.
 pub fn enters(first: u32, last: u32) -> RangeInclusive<u32> {
     ENTER + first..=ENTER + last

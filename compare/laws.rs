@@ -2,7 +2,7 @@
 
 use crate::events::{enters, exits};
 use crate::mivurakol::container::{AUTOLINK, DISPLAY_MATH, INLINE_IMAGE, REFERENCE_LINK, SUBSCRIPT, VERBATIM};
-use crate::mivurakol::field::{END, HOME, KIND, LINK, START};
+use crate::mivurakol::field::{END, HOME, KIND, LINE, LINK, START};
 use crate::mivurakol::{home, kind, Event, ENTER, EXIT};
 use crate::packed::has_home;
 use crate::sheet::Sheet;
@@ -99,13 +99,17 @@ impl Laws {
         self.covered.resize(sheet.text.len(), 0);
         self.shown.clear();
         self.shown.resize(sheet.text.len(), false);
-        let mut before = 0;
+        let (mut before, mut line) = (0, 0);
         for e in events {
             let [kind, start, end, ..] = *e;
             if start > end || start < before || end as usize > sheet.text.len() {
                 return Some(format!("span {start}..{end} after {before}"));
             }
             before = end;
+            if e[LINE] < line || e[LINE] as usize >= sheet.lines().count() {
+                return Some(format!("line {} after {line}", e[LINE]));
+            }
+            line = e[LINE];
             if has_home(kind) == (e[HOME] == home::NONE) {
                 return Some(format!("kind {kind} with home {}", e[HOME]));
             }

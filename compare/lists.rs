@@ -1,6 +1,6 @@
 //! Packed lists: some by hand, all short strings behind a count, damaged lists, random bytes, and records of any numbers.
 
-use crate::events::{event, homed, in_labels, in_text, Home};
+use crate::events::{event, homed, in_labels, in_text, on, Home};
 use crate::mivurakol::container::{AUTOLINK, INLINE_LINK, RAW_FORMAT, STRONG};
 use crate::mivurakol::kind::{STR, SYMBOL};
 use crate::mivurakol::{home, Event, ENTER, EVENT_NUMBERS, EXIT};
@@ -12,13 +12,13 @@ use std::time::Instant;
 /// Lists with their bytes, by document 02's sentences.
 const WRITTEN: &[(&[Event], &[u8])] = &[
     (&[], &[0]),
-    (&[event(ENTER + STRONG, 0, 1), event(STR, 1, 2), event(EXIT + STRONG, 2, 3)], &[3, 38, 0, 1, 0, 1, 0, 1, 0, 70, 0, 1, 0]),
-    (&[homed(SYMBOL, in_text(301, 301), 300, 302)], &[1, 13, 172, 2, 2, 1, 173, 2, 0]),
-    (&[event(SYMBOL, 0, 0)], &[1, 13, 0, 0, 0]),
-    (&[homed(ENTER + RAW_FORMAT, in_text(5, 9), 0, 1)], &[1, 41, 0, 1, 1, 5, 4]),
-    (&[homed(ENTER + AUTOLINK, in_text(1, 4), 0, 1)], &[1, 48, 0, 1, 1, 1, 3]),
-    (&[homed(EXIT + INLINE_LINK, in_labels(3, 5, 128), 16384, 16384)], &[1, 78, 128, 128, 1, 0, 2, 3, 2, 128, 1]),
-    (&[event(STR, u32::MAX, u32::MAX)], &[1, 1, 255, 255, 255, 255, 15, 0, 0]),
+    (&[event(ENTER + STRONG, 0, 1), event(STR, 1, 2), event(EXIT + STRONG, 2, 3)], &[3, 38, 0, 1, 0, 0, 1, 0, 1, 0, 0, 70, 0, 1, 0, 0]),
+    (&[on(150, homed(SYMBOL, in_text(301, 301), 300, 302))], &[1, 13, 172, 2, 2, 150, 1, 1, 173, 2, 0]),
+    (&[event(SYMBOL, 0, 0)], &[1, 13, 0, 0, 0, 0]),
+    (&[homed(ENTER + RAW_FORMAT, in_text(5, 9), 0, 1)], &[1, 41, 0, 1, 0, 1, 5, 4]),
+    (&[homed(ENTER + AUTOLINK, in_text(1, 4), 0, 1)], &[1, 48, 0, 1, 0, 1, 1, 3]),
+    (&[homed(EXIT + INLINE_LINK, in_labels(3, 5, 128), 16384, 16384)], &[1, 78, 128, 128, 1, 0, 0, 2, 3, 2, 128, 1]),
+    (&[on(u32::MAX, event(STR, u32::MAX, u32::MAX))], &[1, 1, 255, 255, 255, 255, 15, 0, 255, 255, 255, 255, 15, 0]),
 ];
 
 /// Bytes with a fault, and its place.
@@ -30,13 +30,15 @@ const FAULTY: &[(&[u8], Fault, usize)] = &[
     (&[255, 255, 255, 255, 16], Fault::TooLarge, 0),
     (&[1, 128, 128, 128, 128, 128, 0], Fault::TooLarge, 1),
     (&[1, 1, 1, 255, 255, 255, 255, 15, 0], Fault::Beyond, 3),
-    (&[1, 13, 0, 2, 1, 1, 255, 255, 255, 255, 15], Fault::Beyond, 6),
+    (&[1, 13, 0, 2, 0, 1, 1, 255, 255, 255, 255, 15], Fault::Beyond, 7),
     (&[1, 32], Fault::Kind, 1),
     (&[1, 64], Fault::Kind, 1),
     (&[1, 129, 2], Fault::Kind, 1),
-    (&[1, 13, 0, 2, 3], Fault::Home, 4),
-    (&[1, 1, 0, 2, 1, 0, 0], Fault::Home, 4),
-    (&[1, 1, 0, 1, 0, 128], Fault::Rest, 5),
+    (&[1, 13, 0, 2, 0, 3], Fault::Home, 5),
+    (&[1, 1, 0, 2, 0, 1, 0, 0], Fault::Home, 5),
+    (&[1, 1, 0, 1, 0, 0, 128], Fault::Rest, 6),
+    (&[1, 1, 0, 1, 128, 0, 0], Fault::Longer, 4),
+    (&[1, 1, 0, 1], Fault::Cut, 4),
 ];
 
 /// Bytes at which something changes: the ends of the kinds, homes and groups.
@@ -85,7 +87,7 @@ fn good(r: &mut Random, out: &mut Vec<Event>) {
         if has_link(kind) {
             part.link = number(r, u32::MAX);
         }
-        out.push(homed(kind, part, start, end));
+        out.push(on(number(r, u32::MAX), homed(kind, part, start, end)));
         previous_end = end;
     }
 }

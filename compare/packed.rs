@@ -1,7 +1,7 @@
 //! A packed list of events, written and read in the words of document 02.
 
-use crate::events::{homed, Home, NOWHERE};
-use crate::mivurakol::field::{END, HOME, HOME_END, HOME_START, KIND, LINK, START};
+use crate::events::{homed, on, Home, NOWHERE};
+use crate::mivurakol::field::{END, HOME, HOME_END, HOME_START, KIND, LINE, LINK, START};
 use crate::mivurakol::{code, home, Event, PackedAnswer, EVENT_NUMBERS};
 use std::ops::RangeInclusive;
 
@@ -90,7 +90,7 @@ pub fn pack(events: &[Event], out: &mut Vec<u8>) -> Result<(), (Flaw, usize)> {
         if let Some(flaw) = flaw(previous_end, e) {
             return Err((flaw, i));
         }
-        for n in [e[KIND], e[START] - previous_end, e[END] - e[START], e[HOME]] {
+        for n in [e[KIND], e[START] - previous_end, e[END] - e[START], e[LINE], e[HOME]] {
             spell(n, out);
         }
         if e[HOME] != home::NONE {
@@ -172,6 +172,7 @@ impl Bytes<'_> {
         let kind = self.asked(Fault::Kind, |kind| among(KINDS, kind))?;
         let start = self.on_top_of(previous_end)?;
         let end = self.on_top_of(start)?;
+        let line = self.number()?;
         let mut part = Home { home: self.asked(Fault::Home, |home| may_have(kind, home))?, ..NOWHERE };
         if part.home != home::NONE {
             part.start = self.number()?;
@@ -180,7 +181,7 @@ impl Bytes<'_> {
         if has_link(kind) {
             part.link = self.number()?;
         }
-        Ok(homed(kind, part, start, end))
+        Ok(on(line, homed(kind, part, start, end)))
     }
 }
 

@@ -232,8 +232,9 @@ pub fn compare(sheets: u64, seed: u64) -> Option<Checker> {
     for (reading, c) in checker.counts.iter().enumerate() {
         println!(
             "reading {reading}: answers {}; {} sheets with a lone brace read as Str, {} refused at an attribute block, {} of these behind a lone \
-             brace; {} lists by the laws, {} of them 16 deep, {} with math over a line's end, {} links, {} sheets with built labels, {} labels \
-             looked up; {} lists packed, unpacked, and unpacked with a byte changed, cut or added",
+             brace; {} lists by the laws, {} of them 16 deep, {} with math over a line's end, {} with an event behind the first line, {} of these \
+             behind a line on which none starts, {} links, {} sheets with built labels, {} labels looked up; {} lists packed, unpacked, and unpacked \
+             with a byte changed, cut or added",
             by_code(&c.answers),
             c.lone,
             c.blocks,
@@ -241,6 +242,8 @@ pub fn compare(sheets: u64, seed: u64) -> Option<Checker> {
             c.lists,
             c.deep,
             c.over,
+            c.later,
+            c.passed,
             c.links,
             c.built,
             c.lookups,

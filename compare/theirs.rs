@@ -1,7 +1,7 @@
 //! What the Rust says of a sheet.
 
 use crate::attr;
-use crate::events::{homed, in_labels, in_text, Home, NOWHERE};
+use crate::events::{homed, in_labels, in_text, locate, Home, NOWHERE};
 use crate::mivurakol::{container, kind, Event, ENTER, EXIT};
 
 /// Events, the bytes of the label room, and the first brace at which an attribute block stands: where
@@ -141,6 +141,7 @@ pub fn read(text: &str, starts: &[usize], ends: &[usize], reading: u32, rust: &m
         _ => strict(text, starts, ends, rust),
     }
     attr::forget();
+    rust.events.iter_mut().for_each(|e| locate(e, ends));
     let place = |address: &usize| address - text.as_ptr() as usize;
     attr::asked(|asked| rust.lone.extend(asked.iter().map(place)));
     if rust.brace.is_some() {

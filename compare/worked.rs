@@ -1,6 +1,6 @@
 //! The sheets that document 01 works through, and some around braces by document 02.
 
-use crate::events::{event, homed, in_labels, in_text};
+use crate::events::{event, homed, in_labels, in_text, on};
 use crate::mivurakol::container::{INLINE_LINK, REFERENCE_LINK, STRONG, VERBATIM};
 use crate::mivurakol::kind::{ELLIPSIS, EM_DASH, EN_DASH, FOOTNOTE_REFERENCE, LEFT_DOUBLE_QUOTE, RIGHT_DOUBLE_QUOTE, SOFTBREAK, STR, SYMBOL};
 use crate::mivurakol::{code, Answer, Event, ENTER, EXIT, LONGEST_RUN};
@@ -68,8 +68,8 @@ pub const WORKED: &[Worked] = &[
     read(b"`` `a` ``", &[(0, 9)], &[event(ENTER + VERBATIM, 0, 2), event(STR, 3, 6), event(EXIT + VERBATIM, 7, 9)]),
     read(b"a{b}", &[(0, 4)], &[event(STR, 0, 4)]),
     read(b"`{`", &[(0, 3)], &[event(ENTER + VERBATIM, 0, 1), event(STR, 1, 2), event(EXIT + VERBATIM, 2, 3)]),
-    read(b"`a\nb\\`", &[(0, 3), (3, 6)], &[event(ENTER + VERBATIM, 0, 1), event(STR, 1, 6), event(EXIT + VERBATIM, 6, 6)]),
-    Worked { reading: 1, ..read(b"`a\nb\\`", &[(0, 3), (3, 6)], &[event(ENTER + VERBATIM, 0, 1), event(STR, 1, 5), event(EXIT + VERBATIM, 5, 6)]) },
+    read(b"`a\nb\\`", &[(0, 3), (3, 6)], &[event(ENTER + VERBATIM, 0, 1), event(STR, 1, 6), on(1, event(EXIT + VERBATIM, 6, 6))]),
+    Worked { reading: 1, ..read(b"`a\nb\\`", &[(0, 3), (3, 6)], &[event(ENTER + VERBATIM, 0, 1), event(STR, 1, 5), on(1, event(EXIT + VERBATIM, 5, 6))]) },
     Worked {
         labels: b"bc",
         ..read(
@@ -98,7 +98,7 @@ pub const BRACES: &[Worked] = &[
     refused(b"{a=\"\n> \"}", &[(0, 5), (7, 9)], 0),
     refused(b"{a=\"\n\"\"}", &[(0, 5), (6, 8)], 0),
     // These would close it.
-    read(b"{a=\"\n\"}b", &[(0, 5), (7, 8)], &[event(STR, 0, 3), event(RIGHT_DOUBLE_QUOTE, 3, 4), event(SOFTBREAK, 4, 5), event(STR, 7, 8)]),
+    read(b"{a=\"\n\"}b", &[(0, 5), (7, 8)], &[event(STR, 0, 3), event(RIGHT_DOUBLE_QUOTE, 3, 4), event(SOFTBREAK, 4, 5), on(1, event(STR, 7, 8))]),
     read(b"{}", &[(0, 1)], &[event(STR, 0, 1)]),
     // Over three lines, one of them empty.
     refused(b"{.a\n}", &[(0, 4), (4, 4), (4, 5)], 0),
@@ -130,7 +130,7 @@ pub const BRACES: &[Worked] = &[
         )
     },
     // Only in reading 1 does the verbatim end before the brace.
-    read(b"`a\nb\\`{}", &[(0, 3), (3, 8)], &[event(ENTER + VERBATIM, 0, 1), event(STR, 1, 8), event(EXIT + VERBATIM, 8, 8)]),
+    read(b"`a\nb\\`{}", &[(0, 3), (3, 8)], &[event(ENTER + VERBATIM, 0, 1), event(STR, 1, 8), on(1, event(EXIT + VERBATIM, 8, 8))]),
     Worked { reading: 1, ..refused(b"`a\nb\\`{}", &[(0, 3), (3, 8)], 6) },
     read(b"\"a{b\"", &[(0, 5)], &[event(LEFT_DOUBLE_QUOTE, 0, 1), event(STR, 1, 4), event(RIGHT_DOUBLE_QUOTE, 4, 5)]),
 ];

@@ -64,8 +64,9 @@ int main(void)
     uint32_t i;
     for (i = 0; i < a.events; i++) {
         const uint32_t *e = events + MIVURAKOL_EVENT_NUMBERS * i;
-        printf("%2u at %2u..%2u", (unsigned)e[MIVURAKOL_FIELD_KIND],
-            (unsigned)e[MIVURAKOL_FIELD_START], (unsigned)e[MIVURAKOL_FIELD_END]);
+        printf("%2u at %2u..%2u, line %u", (unsigned)e[MIVURAKOL_FIELD_KIND],
+            (unsigned)e[MIVURAKOL_FIELD_START], (unsigned)e[MIVURAKOL_FIELD_END],
+            (unsigned)e[MIVURAKOL_FIELD_LINE]);
         if (e[MIVURAKOL_FIELD_HOME] != MIVURAKOL_HOME_NONE)
             print_label(text, e);
         putchar('\n');

@@ -18,7 +18,7 @@ extern "C" {
 #endif
 
 /* Numbers in a record of the event room, of the queue room and of the opener room. */
-#define MIVURAKOL_EVENT_NUMBERS 7
+#define MIVURAKOL_EVENT_NUMBERS 8
 #define MIVURAKOL_QUEUE_NUMBERS 8
 #define MIVURAKOL_OPENER_NUMBERS 4
 
@@ -32,7 +32,8 @@ extern "C" {
 #define MIVURAKOL_LONGEST_RUN 255
 
 /* Where the numbers of an event stand in its record: kind, span, home and the part of it, link
- * number. Those with no meaning are 0. */
+ * number, line. Those with no meaning are 0. The line is the index of the first one that ends after
+ * the span's start; the exit of a verbatim that is left open has the last line's. */
 #define MIVURAKOL_FIELD_KIND 0
 #define MIVURAKOL_FIELD_START 1
 #define MIVURAKOL_FIELD_END 2
@@ -40,6 +41,7 @@ extern "C" {
 #define MIVURAKOL_FIELD_HOME_START 4
 #define MIVURAKOL_FIELD_HOME_END 5
 #define MIVURAKOL_FIELD_LINK 6
+#define MIVURAKOL_FIELD_LINE 7
 
 /* The kinds that neither open nor close. */
 #define MIVURAKOL_KIND_STR 1
@@ -207,13 +209,13 @@ typedef struct {
 
 /* So many bytes hold the packed list of so many events; and so many events are the most that so
  * many bytes can hold. */
-#define MIVURAKOL_PACKED_ROOM(events) (27 * (uint64_t)(events) + 5)
-#define MIVURAKOL_UNPACKED_ROOM(bytes) ((bytes) / 4)
+#define MIVURAKOL_PACKED_ROOM(events) (32 * (uint64_t)(events) + 5)
+#define MIVURAKOL_UNPACKED_ROOM(bytes) ((bytes) / 5)
 
 /* Packs a list of events, for a slow port: their count, then of each event kind, start minus the
- * end of the one before (0 before the first), length and home; if home is not 0, home start and
- * home length; of links and images the link number. Each number stands in groups of seven bits, the
- * lowest first, the high bit set on all but the last, in the shortest form.
+ * end of the one before (0 before the first), length, line and home; if home is not 0, home start
+ * and home length; of links and images the link number. Each number stands in groups of seven bits,
+ * the lowest first, the high bit set on all but the last, in the shortest form.
  *
  * The list is the whole records of the slice; numbers behind the last whole record are no event.
  * Of the events that mivurakol_read hands out, which are as many as it answers, none is refused.

@@ -4,7 +4,7 @@
 //! Any arguments will do, rooms of length 0 included. Its numbers have their names here.
 
 /// Numbers in a record of the event room, of the queue room and of the opener room.
-pub const EVENT_NUMBERS: usize = 7;
+pub const EVENT_NUMBERS: usize = 8;
 pub const QUEUE_NUMBERS: usize = 8;
 pub const OPENER_NUMBERS: usize = 4;
 
@@ -28,7 +28,8 @@ pub const PROGRAM_LIST: usize = 65_536;
 pub type Event = [u32; EVENT_NUMBERS];
 
 /// Where the numbers of an event stand in its record: kind, span, home and the part of it, link
-/// number. Those with no meaning are 0.
+/// number, line. Those with no meaning are 0. The line is the index of the first one that ends after
+/// the span's start; the exit of a verbatim that is left open has the last line's.
 pub mod field {
     pub const KIND: usize = 0;
     pub const START: usize = 1;
@@ -37,6 +38,7 @@ pub mod field {
     pub const HOME_START: usize = 4;
     pub const HOME_END: usize = 5;
     pub const LINK: usize = 6;
+    pub const LINE: usize = 7;
 }
 
 /// The kinds that neither open nor close.
@@ -166,12 +168,12 @@ pub struct PackedAnswer {
 
 /// So many bytes hold the packed list of so many events.
 pub const fn packed_room(events: usize) -> usize {
-    27 * events + 5
+    32 * events + 5
 }
 
 /// So many events are the most that so many bytes can hold.
 pub const fn unpacked_room(bytes: usize) -> usize {
-    bytes / 4
+    bytes / 5
 }
 
 /// So many bytes of output room hold the fragment of any sheet with so many bytes in its lines.

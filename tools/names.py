@@ -17,7 +17,8 @@ OUTSIDE = set("""some_of upto_some crates/scan/proofs/upto_some/Answers.antt rat
 # gone, or under another name now, and said to be: in docs/CHANGES.md, docs/PORT.md and docs/REVIEW.md
 GONE = set("""Shelved shelved Shelf Shelves Shelving shelve roomy pour pile Bits Telling reader/specs/Asking classes/special_bit_lost
     lexer/line_in_verbatim later_as_str reading/event_too_many Hidden proofs/Twin/ proofs/Twin twin.txt Proof.antt libc Line-of fact_2 labels_after
-    out_after""".split())
+    out_after put_four groups::put_four spelled_four numbers-listed listed-stored groups/four_with_one_of_two
+    printing/eight_numbers""".split())
 # gone by the design pass: its page names them, and what states their promise now
 if os.path.exists("docs/DESIGN-PASS.md"):
     page = open("docs/DESIGN-PASS.md").read()

@@ -6,12 +6,12 @@ use native.Mathlib.Numerals.{add-one}
 use borrow.Author.Tests.{leb-true, le-leb, lt-leb}
 use lib.ListN.{length-append}
 use lib.Seq.{sets}
-use Rattle.reading.specs.declared.Event.{Event}
+use Rattle.reading.specs.declared.Located.{Located}
 use Rattle.reading.specs.Events.{event_numbers}
 use Rattle.reading.specs.Questions.{numbers}
 use Rattle.rooms.specs.Rows.{rows}
-use Rattle.listing.specs.Listing.{listed}
-use Rattle.listing.proofs.Listed.{listed-stored}
+use Rattle.listing.specs.Listing.{records}
+use Rattle.listing.proofs.Listed.{records-stored}
 use Rattle.packing.specs.declared.Fault.TheVariants.{Rest}
 use Rattle.packing.specs.declared.FaultAt.{FaultAt}
 use Rattle.packing.specs.Unpacked.{Got, on, pure, if_sound, a_number, event_from, events_from, at_end, unpacked}
@@ -19,25 +19,25 @@ use Rattle.decoder.specs.declared.Input.{Input}
 use Rattle.decoder.specs.Decoding.{came, Read, kept, holding, held}
 
 -- events behind others
-unfoldable pub onto : List Event → Got (List Event) → Got (List Event)
+unfoldable pub onto : List Located → Got (List Located) → Got (List Located)
 onto ds (Ok (es, next)) = Ok (ds ++ es, next)
 onto ds (Err e) = Err e
 
-onto-none : (g : Got (List Event)) → onto [] g ≡ g
+onto-none : (g : Got (List Located)) → onto [] g ≡ g
 unfolding onto
 onto-none (Ok (es, next)) = refl
 onto-none (Err e) = refl
 
-onto-more : (ds : List Event) (e : Event) (g : Got (List Event)) → onto ds (on (λ es. pure (e ∷ es)) g) ≡ onto (ds ++ (e ∷ [])) g
+onto-more : (ds : List Located) (e : Located) (g : Got (List Located)) → onto ds (on (λ es. pure (e ∷ es)) g) ≡ onto (ds ++ (e ∷ [])) g
 unfolding onto on
-onto-more ds e (Ok (es, next)) = ap (λ (l : List Event). Ok (l, next)) (sym (append_assoc ds (e ∷ []) es))
+onto-more ds e (Ok (es, next)) = ap (λ (l : List Located). Ok (l, next)) (sym (append_assoc ds (e ∷ []) es))
 onto-more ds e (Err w) = refl
 
 -- at the head of the loop the events ds were read of n, and stand in a room that holds so many
 pub record Seen (bytes : List ℕ) (n size : ℕ) (room : List ℕ) (input : Input) (prev i : ℕ) : Type 0 where
-  pub ds : List Event
+  pub ds : List Located
   pub count : length ds ≡ i
-  pub stands : n ≤ size → listed i room ≡ ds
+  pub stands : n ≤ size → records i room ≡ ds
   pub lent : input.bytes.now ≡ bytes
   pub same : unpacked bytes ≡ on (at_end bytes) (onto ds (events_from bytes (n - i) prev input.at))
 
@@ -72,7 +72,7 @@ module _ {bytes : List ℕ} {n size : ℕ} {room : List ℕ} {input : Input} {pr
         let z : n - i ≡ 0 = omega arith in
         s.same
         ∙ ap (λ (k : ℕ). on (at_end bytes) (onto s.ds (events_from bytes k prev input.at))) z
-        ∙ ap (λ (l : List Event). at_end bytes l input.at) (append-nil s.ds)
+        ∙ ap (λ (l : List Located). at_end bytes l input.at) (append-nil s.ds)
 
     pub seen-rest : input.at < length bytes → held size (Err (record { fault = Rest; place = input.at })) room ≡ holding size (unpacked bytes)
     unfolding if_sound held holding
@@ -89,13 +89,13 @@ module _ {bytes : List ℕ} {n size : ℕ} {room : List ℕ} {input : Input} {pr
         count = omega (arith, s.count)
 
         by : (t : Bool) → leb n size ≡ t → held size (Ok n) room ≡ Ok (n, kept (leb n size) s.ds)
-        by true t = rw (t, held, kept) (ap (λ (l : List Event). Ok (n, l)) (ap (λ (j : ℕ). listed j room) h ∙ s.stands (leb-true n size t)))
+        by true t = rw (t, held, kept) (ap (λ (l : List Located). Ok (n, l)) (ap (λ (j : ℕ). records j room) h ∙ s.stands (leb-true n size t)))
         by false t = rw (t, held, kept)
 
   -- one is
-  module _ (h : i < n) {r : Result Event FaultAt} {input' : Input} (x : Read input (λ bs. event_from bs prev) r input') where
-    abbrev behind : Event → ℕ → Got (List Event)
-    behind e to = on (λ es. pure (e ∷ es)) (events_from bytes (n - (i + 1)) e.end.0 to)
+  module _ (h : i < n) {r : Result Located FaultAt} {input' : Input} (x : Read input (λ bs. event_from bs prev) r input') where
+    abbrev behind : Located → ℕ → Got (List Located)
+    behind e to = on (λ es. pure (e ∷ es)) (events_from bytes (n - (i + 1)) e.event.end.0 to)
 
     more : unpacked bytes ≡ on (at_end bytes) (onto s.ds (on behind (came r input'.at)))
     unfolding events_from
@@ -106,21 +106,21 @@ module _ {bytes : List ℕ} {n size : ℕ} {room : List ℕ} {input : Input} {pr
     seen-fault w e = sym (ap (holding size) (more ∙ ap (λ r. on (at_end bytes) (onto s.ds (on behind (came r input'.at)))) e))
 
     -- the room with the event as the i-th, if it is kept
-    pub seen_more : (e : Event) (room' : List ℕ) → r ≡ Ok e
+    pub seen_more : (e : Located) (room' : List ℕ) → r ≡ Ok e
         → (n ≤ size → (room' ≡ sets room (i * event_numbers) (numbers (e ∷ []))) × (i * event_numbers + event_numbers ≤ length room))
-        → Seen bytes n size room' input' e.end.0 (i + 1)
+        → Seen bytes n size room' input' e.event.end.0 (i + 1)
     unfolding on
     seen_more e room' q k =
         record {
           ds = s.ds ++ (e ∷ []);
           count = omega (arith, length-append s.ds (e ∷ []), s.count);
           stands = λ t.
-              ap (λ (j : ℕ). listed j room') (add-one i)
-              ∙ ap (listed (suc i)) (k t).0
-              ∙ listed-stored room i e (k t).1
-              ∙ ap (λ (es : List Event). es ++ (e ∷ [])) (s.stands t);
+              ap (λ (j : ℕ). records j room') (add-one i)
+              ∙ ap (records (suc i)) (k t).0
+              ∙ records-stored room i e (k t).1
+              ∙ ap (λ (es : List Located). es ++ (e ∷ [])) (s.stands t);
           lent = ap (λ b. b.now) x.bytes ∙ s.lent;
           same = more
               ∙ ap (λ r. on (at_end bytes) (onto s.ds (on behind (came r input'.at)))) q
-              ∙ ap (on (at_end bytes)) (onto-more s.ds e (events_from bytes (n - (i + 1)) e.end.0 input'.at));
+              ∙ ap (on (at_end bytes)) (onto-more s.ds e (events_from bytes (n - (i + 1)) e.event.end.0 input'.at));
         }

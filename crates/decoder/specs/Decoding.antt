@@ -1,7 +1,7 @@
 -- The answers of the functions that read a packed list, as what the definition says is read there.
 use Rattle.std.specs.Prelude.{ℕ, ◌≡◌, List, [], Bool, true, false, leb, length, Result, Ok, Err}
-use Rattle.reading.specs.declared.Event.{Event}
-use Rattle.listing.specs.Listing.{listed}
+use Rattle.reading.specs.declared.Located.{Located}
+use Rattle.listing.specs.Listing.{records}
 use Rattle.packing.specs.declared.FaultAt.{FaultAt}
 use Rattle.packing.specs.Unpacked.{Got, Reads}
 use Rattle.decoder.specs.declared.Input.{Input}
@@ -18,16 +18,16 @@ pub record Read {A : Type 0} (i : Input) (p : List ℕ → Reads A) (r : Result 
   pub bytes : i'.bytes ≡ i.bytes
 
 -- events that are kept, or only looked through
-unfoldable pub kept : Bool → List Event → List Event
+unfoldable pub kept : Bool → List Located → List Located
 kept true es = es
 kept false es = []
 
 -- how many events there are, and those that are kept: all, if a room holds so many
-unfoldable pub holding : ℕ → Got (List Event) → Result (ℕ × List Event) FaultAt
+unfoldable pub holding : ℕ → Got (List Located) → Result (ℕ × List Located) FaultAt
 holding size (Ok (es, next)) = Ok (length es, kept (leb (length es) size) es)
 holding size (Err e) = Err e
 
 -- by the answer and the room at the end
-unfoldable pub held : ℕ → Result ℕ FaultAt → List ℕ → Result (ℕ × List Event) FaultAt
-held size (Ok n) room = Ok (n, kept (leb n size) (listed n room))
+unfoldable pub held : ℕ → Result ℕ FaultAt → List ℕ → Result (ℕ × List Located) FaultAt
+held size (Ok n) room = Ok (n, kept (leb n size) (records n room))
 held size (Err e) room = Err e

@@ -7,7 +7,7 @@ ghost use Rattle.decoder.specs.Decoding.{Read, held, holding};
 
 use groups::NumberError;
 use packing::{Fault, FaultAt};
-use reading::{EVENT_NUMBERS, Event, Home, Link, NO_HOME, Place};
+use reading::{EVENT_NUMBERS, Home, Link, Located, NO_HOME, Place};
 
 // The bytes of a list, and the place up to which they are read: a fault has a place in the whole
 // list.
@@ -95,16 +95,20 @@ impl<'a> Input<'a> {
         })
     }
 
-    // An event behind one that ends at prev.
+    // An event with its line, behind one that ends at prev.
     #[tactic(auto, unfolding(packing::specs::Unpacked::on))]
-    fn event(&mut self, prev: u32) -> Result<Event, FaultAt>
+    fn event(&mut self, prev: u32) -> Result<Located, FaultAt>
         ensures { Read self.old (λ bs. event_from bs prev) result self.new }
     {
         let kind = self.kind()?;
         let start = self.sum(prev)?;
         let end = self.sum(start)?;
+        let line = self.number()?;
         let home = self.home_from(kind)?;
-        Ok(rooms::event_of(kind, Place(start), Place(end), home))
+        Ok(Located {
+            event: rooms::event_of(kind, Place(start), Place(end), home),
+            line,
+        })
     }
 }
 
@@ -118,11 +122,11 @@ pub fn list(bytes: &[u8], room: &mut [u32]) -> Result<usize, FaultAt>
     let keep = n <= room.len() / EVENT_NUMBERS;
     let mut prev = 0;
     for i in 0..n {
-        let e = input.event(prev)?;
+        let r = input.event(prev)?;
         if keep {
-            listing::store(room, i, e);
+            listing::store(room, i, r);
         }
-        prev = e.end.0;
+        prev = r.event.end.0;
     }
     if input.at < bytes.len() {
         return Err(Fault::Rest.at(input.at));

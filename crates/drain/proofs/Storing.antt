@@ -9,12 +9,14 @@ use native.Mathlib.Numerals.{add-one}
 use native.Mathlib.Omega.{arith}
 use borrow.Author.Tests.{lt-ltb, le-ltb, le-leb, lt-leb}
 use lib.ListN.{length, take, drop, length-append, length-drop}
-use lib.Seq.{sets, sets-eq, length-sets, take-nil, take-append_seam, drop-append-add, drop-drop}
+use lib.Seq.{sets, length-sets, take-nil, drop-drop}
 use Rattle.reading.specs.declared.Event.{Event}
 use Rattle.reading.specs.Events.{event_numbers}
-use Rattle.reading.specs.Questions.{record_of, numbers}
-use Rattle.listing.proofs.Listed.{numbers-length}
-use Rattle.drain.specs.Handing.{answered, handed}
+use Rattle.reading.specs.Located.{located_of, located}
+use Rattle.reading.specs.Questions.{numbers, numbers_of}
+use Rattle.listing.proofs.Listed.{numbers-length, sets-seam}
+use Rattle.reading.proofs.Locating.{located-length}
+use Rattle.drain.specs.Handing.{answered, plain, handed}
 use Rattle.drain.specs.Storing.{out, put, put_all}
 
 -- a full room stays as it is
@@ -25,7 +27,7 @@ put_all_full (e ∷ es) room = put_all_full es room
 
 -- one event, where the room holds it and where not
 module _ (e : Event) (k : ℕ) (room : List ℕ) where
-  pub put_in : k < length room / event_numbers → put e (Some k) room ≡ out (Some (suc k)) (sets room (k * event_numbers) (numbers (e ∷ [])))
+  pub put_in : k < length room / event_numbers → put e (Some k) room ≡ out (Some (suc k)) (sets room (k * event_numbers) (plain (e ∷ [])))
   unfolding put
   put_in h = rw (lt-ltb k (length room / event_numbers) h, put)
 
@@ -37,34 +39,31 @@ module _ (e : Event) (k : ℕ) (room : List ℕ) where
 place_in : (k n : ℕ) → k < n / event_numbers → k * event_numbers + event_numbers ≤ n
 place_in k n h = omega (arith, div-mul-le_self n event_numbers)
 
--- stores over the front of what lies behind a part of the room
-sets-seam : (pre post vs : List ℕ) → length vs ≤ length post → sets (pre ++ post) (length pre) vs ≡ pre ++ vs ++ drop (length vs) post
-sets-seam pre post vs h =
-    sets-eq vs (pre ++ post) (length pre) (omega (arith, length-append pre post))
-    ∙ rw (take-append_seam pre post, drop-append-add pre post (length vs))
-
 handed-none : (room : List ℕ) → handed [] room ≡ room
-unfolding handed numbers
+unfolding handed numbers located
 handed-none room = rw take-nil
 
 -- a room for no event
 handed-full : (es : List Event) (room : List ℕ) → length room < event_numbers → handed es room ≡ room
-unfolding handed numbers
+unfolding handed numbers located
 handed-full es room h = rw (div-eq_of_lt {n = length room} {m = event_numbers} h)
+
+pub plain-length : (es : List Event) → length (plain es) ≡ length es * event_numbers
+plain-length es = numbers-length (located [] es) ∙ ap (λ (n : ℕ). n * event_numbers) (located-length [] es)
 
 -- the room behind the numbers of an event and more
 drop-record : (e : Event) (es : List Event) (room : List ℕ)
-    → drop (length (numbers (e ∷ es))) room ≡ drop (length (numbers es)) (drop event_numbers room)
-unfolding numbers
+    → drop (length (plain (e ∷ es))) room ≡ drop (length (plain es)) (drop event_numbers room)
+unfolding numbers located
 drop-record e es room =
-    ap (λ (k : ℕ). drop k room) (length-append (record_of e) (numbers es)) ∙ sym (drop-drop (length (numbers es)) event_numbers room)
+    ap (λ (k : ℕ). drop k room) (length-append (numbers_of (located_of [] e)) (plain es)) ∙ sym (drop-drop (length (plain es)) event_numbers room)
 
 handed-more : (e : Event) (es : List Event) (room : List ℕ) → event_numbers ≤ length room
-    → handed (e ∷ es) room ≡ numbers (e ∷ []) ++ handed es (drop event_numbers room)
-unfolding handed numbers
+    → handed (e ∷ es) room ≡ plain (e ∷ []) ++ handed es (drop event_numbers room)
+unfolding handed numbers located
 handed-more e es room h =
-    ap (λ (q : ℕ). let o = numbers (take q (e ∷ es)) in o ++ drop (length o) room) fewer
-    ∙ ap (λ (l : List ℕ). numbers (e ∷ []) ++ (numbers (take (length (drop event_numbers room) / event_numbers) es) ++ l)) (drop-record e (take (length (drop event_numbers room) / event_numbers) es) room)
+    ap (λ (q : ℕ). let o = plain (take q (e ∷ es)) in o ++ drop (length o) room) fewer
+    ∙ ap (λ (l : List ℕ). plain (e ∷ []) ++ (plain (take (length (drop event_numbers room) / event_numbers) es) ++ l)) (drop-record e (take (length (drop event_numbers room) / event_numbers) es) room)
   where
     fewer : length room / event_numbers ≡ suc (length (drop event_numbers room) / event_numbers)
     fewer = rw (length-drop event_numbers room) (div-eq-sub-div {m = event_numbers} {n = length room} (omega arith) h ∙ add-one ((length room - event_numbers) / event_numbers))
@@ -100,7 +99,7 @@ module _ (k : ℕ) (pre post : List ℕ) (l : length pre ≡ k * event_numbers) 
         short : length post < event_numbers
         short = omega (arith, length-append pre post, lt-div-mul-add {a = length (pre ++ post)} {b = event_numbers} (omega arith))
 
-    put-all-in : k < length (pre ++ post) / event_numbers → PutAll es (suc k) (pre ++ numbers (e ∷ [])) (drop event_numbers post) → PutAll (e ∷ es) k pre post
+    put-all-in : k < length (pre ++ post) / event_numbers → PutAll es (suc k) (pre ++ plain (e ∷ [])) (drop event_numbers post) → PutAll (e ∷ es) k pre post
     unfolding put_all
     put-all-in h ih =
         rw (put_in e k (pre ++ post) h)
@@ -111,28 +110,28 @@ module _ (k : ℕ) (pre post : List ℕ) (l : length pre ≡ k * event_numbers) 
         more : event_numbers ≤ length post
         more = omega (arith, length-append pre post, place_in k (length (pre ++ post)) h)
 
-        stored : sets (pre ++ post) (k * event_numbers) (numbers (e ∷ [])) ≡ pre ++ numbers (e ∷ []) ++ drop event_numbers post
+        stored : sets (pre ++ post) (k * event_numbers) (plain (e ∷ [])) ≡ pre ++ plain (e ∷ []) ++ drop event_numbers post
         stored =
-            ap (λ (i : ℕ). sets (pre ++ post) i (numbers (e ∷ []))) (sym l)
-            ∙ sets-seam pre post (numbers (e ∷ [])) (omega (arith, numbers-length (e ∷ []), more))
-            ∙ ap (λ (n : ℕ). pre ++ numbers (e ∷ []) ++ drop n post) (numbers-length (e ∷ []))
+            ap (λ (i : ℕ). sets (pre ++ post) i (plain (e ∷ []))) (sym l)
+            ∙ sets-seam pre post (plain (e ∷ [])) (omega (arith, plain-length (e ∷ []), more))
+            ∙ ap (λ (n : ℕ). pre ++ plain (e ∷ []) ++ drop n post) (plain-length (e ∷ []))
 
         counted : suc k + length es ≡ k + suc (length es)
         counted = omega arith
 
-        longer : length (pre ++ numbers (e ∷ []) ++ drop event_numbers post) ≡ length (pre ++ post)
-        longer = ap length (sym stored) ∙ length-sets (pre ++ post) (k * event_numbers) (numbers (e ∷ []))
+        longer : length (pre ++ plain (e ∷ []) ++ drop event_numbers post) ≡ length (pre ++ post)
+        longer = ap length (sym stored) ∙ length-sets (pre ++ post) (k * event_numbers) (plain (e ∷ []))
 
-        whole : pre ++ numbers (e ∷ []) ++ handed es (drop event_numbers post) ≡ pre ++ handed (e ∷ es) post
-        whole = append_assoc pre (numbers (e ∷ [])) (handed es (drop event_numbers post)) ∙ ap (λ (r : List ℕ). pre ++ r) (sym (handed-more e es post more))
+        whole : pre ++ plain (e ∷ []) ++ handed es (drop event_numbers post) ≡ pre ++ handed (e ∷ es) post
+        whole = append_assoc pre (plain (e ∷ [])) (handed es (drop event_numbers post)) ∙ ap (λ (r : List ℕ). pre ++ r) (sym (handed-more e es post more))
 
 all-put : (es : List Event) (k : ℕ) (pre post : List ℕ) → length pre ≡ k * event_numbers → PutAll es k pre post
 all-put [] k pre post l = put-all-none k pre post l
 all-put (e ∷ es) k pre post l =
     go (dec_lt k (length (pre ++ post) / event_numbers))
-    (all-put es (suc k) (pre ++ numbers (e ∷ [])) (drop event_numbers post) (omega (arith, length-append pre (numbers (e ∷ [])), numbers-length (e ∷ []))))
+    (all-put es (suc k) (pre ++ plain (e ∷ [])) (drop event_numbers post) (omega (arith, length-append pre (plain (e ∷ [])), plain-length (e ∷ []))))
   where
-    go : Dec (k < length (pre ++ post) / event_numbers) → PutAll es (suc k) (pre ++ numbers (e ∷ [])) (drop event_numbers post) → PutAll (e ∷ es) k pre post
+    go : Dec (k < length (pre ++ post) / event_numbers) → PutAll es (suc k) (pre ++ plain (e ∷ [])) (drop event_numbers post) → PutAll (e ∷ es) k pre post
     go (yes h) ih = put-all-in k pre post l e es h ih
     go (no h) ih = put-all-out k pre post l e es (omega arith)
 

@@ -5,7 +5,7 @@ use Rattle.std.proofs.lemmas.List.Edits.{sets}
 use Rattle.reading.specs.declared.Event.{Event}
 use Rattle.reading.specs.Events.{event_numbers}
 use Rattle.reading.specs.Draining.{drained}
-use Rattle.reading.specs.Questions.{numbers}
+use Rattle.drain.specs.Handing.{plain}
 
 -- how many were put out, and the room
 pub record Out : Type 0 where
@@ -19,7 +19,7 @@ out d room = record { answer = d; room = room }
 unfoldable pub put : Event → Option ℕ → List ℕ → Out
 put e (Some k) room =
     elim (ltb k (length room / event_numbers)) [
-      | true ↦ out (Some (suc k)) (sets room (k * event_numbers) (numbers (e ∷ [])))
+      | true ↦ out (Some (suc k)) (sets room (k * event_numbers) (plain (e ∷ [])))
       | false ↦ out None room
     ]
 put e None room = out None room

@@ -7,7 +7,7 @@ ghost use Rattle.reading.specs.Draining.{drain};
 ghost use Rattle.rooms.specs.Records.{events};
 ghost use Rattle.drain.specs.Handing.{answered, handed};
 
-use reading::{EVENT_NUMBERS, Event, NOWHERE, Place, kind};
+use reading::{EVENT_NUMBERS, Event, Located, NOWHERE, Place, kind};
 
 // A room that is lent, how many events were handed out into it, and the Str behind them that may
 // still grow.
@@ -58,13 +58,14 @@ impl<'r> Held<'r> {
         self.hand_out(rooms::event_of(kind::STR, self.start, self.end, NOWHERE))
     }
 
-    // One event behind those that were handed out, if the room holds it.
-    #[tactic(auto, using(crate::proofs::Storing::put_all_full), unfolding(crate::specs::Storing::put, crate::specs::Storing::put_all, crate::specs::Storing::after))]
+    // One event behind those that were handed out, if the room holds it. Its line is put in later.
+    #[tactic(auto, using(crate::proofs::Storing::put_all_full), unfolding(crate::specs::Storing::put, crate::specs::Storing::put_all, crate::specs::Storing::after, reading::specs::Located::located, reading::specs::Located::line_of))]
     fn hand_out(&mut self, e: Event) -> Option<()>
         ensures { (es : List Event) → Puts self.old (e ∷ es) result self.new es }
     {
         if self.count < self.room.len() / EVENT_NUMBERS {
-            listing::store(self.room, self.count, e);
+            let located = Located { event: e, line: 0 };
+            listing::store(self.room, self.count, located);
             self.count += 1;
             return Some(());
         }

@@ -3,11 +3,11 @@ use Rattle.std.specs.Prelude.{ℕ, ◌≡◌, ◌+◌, ◌/◌, ◌≤◌, ◌<�
 use Rattle.std.proofs.Common.{sym, ap, ◌∙◌, arith, append_assoc, append-nil, length-append}
 use borrow.Author.Tests.{le-leb, lt-leb}
 use lib.Seq.{length-take-le}
-use Rattle.reading.specs.declared.Event.{Event}
+use Rattle.reading.specs.declared.Located.{Located}
 use Rattle.reading.specs.Events.{event_numbers}
 use Rattle.rooms.proofs.Rows.{rows-length}
-use Rattle.listing.specs.Listing.{event_at}
-use Rattle.listing.proofs.Listed.{listed-end}
+use Rattle.listing.specs.Listing.{record_at}
+use Rattle.listing.proofs.Listed.{rows-end}
 use Rattle.output.specs.declared.Output.{Output}
 use Rattle.output.specs.Written.{Adds}
 use Rattle.groups.specs.Groups.{spelled, spelled_all}
@@ -54,7 +54,7 @@ module _ (events : List ℕ) where
   abbrev n : ℕ
   n = length events / event_numbers
 
-  abbrev es : List Event
+  abbrev es : List Located
   es = whole events
 
   -- the count is written, or is more than can be
@@ -65,7 +65,7 @@ module _ (events : List ℕ) where
         record {
           flaws = refl;
           stands = λ e. stands-more (spelled n) (spelled_all (fields_all 0 es)) r w
-              (record { whole = λ t. rw (at) (ap (λ (k : ℕ). spelled k ++ spelled_all (fields_all 0 es)) (sym (rows-length event_at n events))); over = λ t. cc; size = ap length held });
+              (record { whole = λ t. rw (at) (ap (λ (k : ℕ). spelled k ++ spelled_all (fields_all 0 es)) (sym (rows-length record_at n events))); over = λ t. cc; size = ap length held });
           lent = refl;
         }
 
@@ -73,30 +73,30 @@ module _ (events : List ℕ) where
     puts-many h =
         record {
           flaws = refl;
-          stands = λ e. absurd (omega (arith, (first-none 0 0 es (omega arith) e).1, rows-length event_at n events));
+          stands = λ e. absurd (omega (arith, (first-none 0 0 es (omega arith) e).1, rows-length record_at n events));
           lent = refl;
         }
 
   module _ {room : List ℕ} {o₀ o : Output} {i prev : ℕ} {fits : Bool} (p : Puts events room o₀ o i prev fits) where
     -- an event more
-    module _ (h : i < n) (e : Event) (is : e ≡ event_at events i) where
-      pub puts-flaw : (bytes size : ℕ) → is_none (flaw_of i prev e) ≡ false → Err (put.Flaw i) ≡ put_as (first_flaw 0 0 es) bytes size
+    module _ (h : i < n) (e : Located) (is : e ≡ record_at events i) where
+      pub puts-flaw : (bytes size : ℕ) → is_none (flaw_of i prev e.event) ≡ false → Err (put.Flaw i) ≡ put_as (first_flaw 0 0 es) bytes size
       puts-flaw bytes size s = sym (ap (λ (f : Flawed). put_as f bytes size) p.flaws ∙ flaw-here events i prev h e is bytes size s)
 
-      module _ (s : is_none (flaw_of i prev e) ≡ true) where
-        left : spelled_all (fields_all prev (drop i es)) ≡ spelled_all (fields prev e) ++ spelled_all (fields_all e.end.0 (drop (i + 1) es))
+      module _ (s : is_none (flaw_of i prev e.event) ≡ true) where
+        left : spelled_all (fields_all prev (drop i es)) ≡ spelled_all (fields prev e) ++ spelled_all (fields_all e.event.end.0 (drop (i + 1) es))
         unfolding fields_all
-        left = ap (λ (l : List Event). spelled_all (fields_all prev l)) (next_event events i prev h e is) ∙ spelled-append (fields prev e) (fields_all e.end.0 (drop (i + 1) es))
+        left = ap (λ (l : List Located). spelled_all (fields_all prev l)) (next_event events i prev h e is) ∙ spelled-append (fields prev e) (fields_all e.event.end.0 (drop (i + 1) es))
 
-        pub puts-more : (r : Option (Unit {0})) (o' : Output) → fits ≡ true → Adds o (spelled_all (fields prev e)) r o' → Puts events room o₀ o' (i + 1) e.end.0 (is_some r)
+        pub puts-more : (r : Option (Unit {0})) (o' : Output) → fits ≡ true → Adds o (spelled_all (fields prev e)) r o' → Puts events room o₀ o' (i + 1) e.event.end.0 (is_some r)
         puts-more r o' t w =
             record {
               flaws = p.flaws ∙ flaw-later events i prev h e is s;
-              stands = λ f. stands-more (spelled_all (fields prev e)) (spelled_all (fields_all e.end.0 (drop (i + 1) es))) r w (rw (t, left) at (p.stands f));
+              stands = λ f. stands-more (spelled_all (fields prev e)) (spelled_all (fields_all e.event.end.0 (drop (i + 1) es))) r w (rw (t, left) at (p.stands f));
               lent = w.lent ∙ p.lent;
             }
 
-        pub puts-less : fits ≡ false → Puts events room o₀ o (i + 1) e.end.0 false
+        pub puts-less : fits ≡ false → Puts events room o₀ o (i + 1) e.event.end.0 false
         puts-less t =
             record {
               flaws = p.flaws ∙ flaw-later events i prev h e is s;
@@ -113,7 +113,7 @@ module _ (events : List ℕ) where
       unfolding fields_all spelled_all
       puts_all t =
           sym (append-nil (take o.at o.room.now))
-          ∙ ap (λ (l : List Event). take o.at o.room.now ++ spelled_all (fields_all prev l)) (sym (listed-end events n i h))
+          ∙ ap (λ (l : List Located). take o.at o.room.now ++ spelled_all (fields_all prev l)) (sym (rows-end record_at events n i h))
           ∙ (p.stands sound).whole t
 
       pub puts-count : fits ≡ true → Ok o.at ≡ put_as (first_flaw 0 0 es) (length (packed es)) (length room)

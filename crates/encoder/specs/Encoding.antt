@@ -1,15 +1,16 @@
 -- What comes of writing a list.
 use Rattle.std.specs.Prelude.{ℕ, ◌≤◌, ◌/◌, List, true, false, leb, length, Some, None, Result, Ok, Err}
 use Rattle.reading.specs.declared.Event.{Event}
+use Rattle.reading.specs.declared.Located.{Located}
 use Rattle.reading.specs.Events.{event_numbers}
-use Rattle.listing.specs.Listing.{listed}
+use Rattle.listing.specs.Listing.{records}
 use Rattle.packing.specs.Packed.{Flawed}
 use Rattle.encoder.specs.declared.PutError.{PutError}
 use Rattle.encoder.specs.declared.PutError.TheVariants.{Flaw, Full}
 
 -- a list is the whole records of a room
-abbrev pub whole : List ℕ → List Event
-whole room = listed (length room / event_numbers) room
+abbrev pub whole : List ℕ → List Located
+whole room = records (length room / event_numbers) room
 
 -- the answer, by the first flaw, how many bytes a list has and how many a room: a refusal comes
 -- before the room

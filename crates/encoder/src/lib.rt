@@ -7,10 +7,10 @@ ghost use Rattle.reading.specs.Homes.{has_link};
 ghost use Rattle.packing.specs.Packed.{given, present, fields, packed, idle as idle_of, flaw_of, first_flaw};
 ghost use Rattle.encoder.specs.Encoding.{whole, put_as, Forward};
 
-use groups::{put_four, put_number};
+use groups::{put_five, put_number};
 use output::Output;
 use packing::LARGEST;
-use reading::{EVENT_NUMBERS, Event, NO_HOME, Place};
+use reading::{EVENT_NUMBERS, Event, Located, NO_HOME, Place};
 
 // Why a list is not written: the first event that cannot be written, or a room that does not hold
 // the bytes.
@@ -43,13 +43,16 @@ fn sound(i: usize, prev: Place, e: Event) -> bool
         && i < LARGEST as usize
 }
 
-// An event behind one that ends at prev.
+// An event with its line, behind one that ends at prev.
 #[tactic(auto, unfolding(groups::specs::Groups::spelled_all, packing::specs::Packed::fields))]
-fn put_event(out: &mut Output, prev: Place, e: Event) -> Option<()>
-    requires { Forward prev.0 e }
-    ensures { Adds out.old (spelled_all (fields prev.0 e)) result out.new }
+fn put_event(out: &mut Output, prev: Place, r: Located) -> Option<()>
+    requires { Forward prev.0 r.event }
+    ensures { Adds out.old (spelled_all (fields prev.0 r)) result out.new }
 {
-    put_four(out, e.kind, e.start.0 - prev.0, e.end.0 - e.start.0, e.home)?;
+    let e = r.event;
+    let gap = e.start.0 - prev.0;
+    let length = e.end.0 - e.start.0;
+    put_five(out, e.kind, gap, length, r.line, e.home)?;
     put_behind_home(out, e)
 }
 
@@ -86,12 +89,12 @@ pub fn put_list(events: &[u32], room: &mut [u8]) -> Result<usize, PutError>
     let mut fits = n <= LARGEST as usize && put_number(&mut out, n as u32).is_some();
     let mut prev = Place(0);
     for i in 0..n {
-        let e = listing::event_at(events, i);
-        if !sound(i, prev, e) {
+        let r = listing::record_at(events, i);
+        if !sound(i, prev, r.event) {
             return Err(PutError::Flaw(i));
         }
-        fits = fits && put_event(&mut out, prev, e).is_some();
-        prev = e.end;
+        fits = fits && put_event(&mut out, prev, r).is_some();
+        prev = r.event.end;
     }
     if fits {
         Ok(out.count())

@@ -15,6 +15,8 @@ use Rattle.reading.specs.declared.Answer.{Answer}
 use Rattle.reading.specs.Events.{event_numbers}
 use Rattle.reading.specs.Machine.{Sheet, State}
 use Rattle.reading.specs.Reading.{sheet, read, end_of}
+use Rattle.reading.specs.Located.{located}
+use Rattle.reading.proofs.Locating.{located-length}
 use Rattle.reading.specs.Questions.{Rooms, Outcome, total, label_room, numbers, filled, cleared, handed_out, outcome, judged as judged-reader}
 use Rattle.reading.specs.Walked.{Whole, AcceptedHomes, events}
 use Rattle.reading.proofs.Choose.{choose, choose₂}
@@ -31,9 +33,9 @@ use Rattle.verdict.specs.Judging.{Listed}
 abbrev Few : Outcome → Type 0
 Few o = o.answer.code ≤ 9
 
-few-judged : (r : Option Place) (b : Bool) (s : State) (rooms : Rooms) → Few (judged-reader r b s rooms)
+few-judged : (ls : List Line) (r : Option Place) (b : Bool) (s : State) (rooms : Rooms) → Few (judged-reader ls r b s rooms)
 unfolding judged-reader handed_out
-few-judged r b s rooms = grind arith
+few-judged ls r b s rooms = grind arith
 
 -- 10 and 11 zero the rooms, whatever they hold
 judged-cleared : (b : Option Place) (f : List ℕ) (rooms rooms' : Rooms) (o : Outcome) (out : List ℕ) → cleared rooms ≡ cleared rooms'
@@ -73,7 +75,7 @@ module _ (text : List ℕ) (ls : List Line) (reading : ℕ) (rooms : Rooms) wher
 
   -- the reader has no code behind 9
   few-codes : o.answer.code ≤ 9
-  few-codes = asks text ls reading rooms Few (λ code at l u. omega (arith, u)) (λ f. few-judged (read x ls).refused (read x ls).fits (read x ls) rooms)
+  few-codes = asks text ls reading rooms Few (λ code at l u. omega (arith, u)) (λ f. few-judged ls (read x ls).refused (read x ls).fits (read x ls) rooms)
 
   -- the events of an accepted sheet stand in their room
   module _ (a : Answer) (e q p l : List ℕ) (is : outcome_of a e q p l ≡ o) where
@@ -87,11 +89,11 @@ module _ (text : List ℕ) (ls : List Line) (reading : ℕ) (rooms : Rooms) wher
       count-is : a.events ≡ length es
       count-is = ap (λ (z : Outcome). z.answer.events) is ∙ (accepted text ls reading rooms read-so).count
 
-      room-is : e ≡ filled (numbers es) rooms.events
+      room-is : e ≡ filled (numbers (located ls es)) rooms.events
       room-is = ap (λ (z : Outcome). z.rooms.events) is ∙ (accepted text ls reading rooms read-so).handed
 
       listed-es : listed a.events e ≡ es
-      listed-es = (λ t. listed (count-is t) (room-is t)) ∙ listed-numbers es (replicate (length rooms.events - length (numbers es)) 0)
+      listed-es = (λ t. listed (count-is t) (room-is t)) ∙ listed-numbers ls es (replicate (length rooms.events - length (numbers (located ls es))) 0)
 
       room-holds : a.events * event_numbers ≤ length e
       room-holds =
@@ -99,8 +101,9 @@ module _ (text : List ℕ) (ls : List Line) (reading : ℕ) (rooms : Rooms) wher
             arith,
             ap (λ (k : ℕ). k * event_numbers) count-is,
             ap length room-is,
-            length-append (numbers es) (replicate (length rooms.events - length (numbers es)) 0),
-            numbers-length es,
+            length-append (numbers (located ls es)) (replicate (length rooms.events - length (numbers (located ls es))) 0),
+            numbers-length (located ls es),
+            located-length ls es,
           )
 
     -- what is asked of the reader's answer

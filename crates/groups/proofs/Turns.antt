@@ -32,9 +32,17 @@ more-groups k n h = rw (le-ltb n 128 h, groups)
 pub spelled_one : (n : ℕ) → n < 128 → n ∷ [] ≡ spelled n
 spelled_one n h = sym (one-group 4 n h)
 
-pub spelled_four : (a b c d : ℕ) → a < 128 → b < 128 → c < 128 → d < 128 → a ∷ b ∷ c ∷ d ∷ [] ≡ spelled_all (a ∷ b ∷ c ∷ d ∷ [])
+pub spelled_five : (a b c d e : ℕ) → a < 128 → b < 128 → c < 128 → d < 128 → e < 128 → a ∷ b ∷ c ∷ d ∷ e ∷ [] ≡ spelled_all (a ∷ b ∷ c ∷ d ∷ e ∷ [])
 unfolding spelled_all
-spelled_four a b c d i j k l = rw (sym (spelled_one a i), sym (spelled_one b j), sym (spelled_one c k), sym (spelled_one d l)) refl
+spelled_five a b c d e i j k l m = rw (sym (spelled_one a i), sym (spelled_one b j), sym (spelled_one c k), sym (spelled_one d l), sym (spelled_one e m)) refl
+
+spelled-two : (n : ℕ) → 128 ≤ n → n < 16384 → (128 + n % 128) ∷ (n / 128) ∷ [] ≡ spelled n
+spelled-two n h l = sym (more-groups 3 n h ∙ ap (λ (ns : List ℕ). (128 + n % 128) ∷ ns) (one-group 3 (n / 128) (omega arith)))
+
+pub spelled_six : (a b c d e : ℕ) → a < 128 → b < 128 → c < 128 → 128 ≤ d → d < 16384 → e < 128
+    → a ∷ b ∷ c ∷ (128 + d % 128) ∷ (d / 128) ∷ e ∷ [] ≡ spelled_all (a ∷ b ∷ c ∷ d ∷ e ∷ [])
+unfolding spelled_all
+spelled_six a b c d e i j k h l m = rw (sym (spelled_one a i), sym (spelled_one b j), sym (spelled_one c k), sym (spelled-two d h l), sym (spelled_one e m)) refl
 
 -- at the head of the loop that writes, what is left is a number of at most k + 1 groups
 pub record Rest (o₀ : Output) (n : ℕ) (o : Output) (rest : ℕ) : Type 0 where

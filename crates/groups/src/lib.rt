@@ -48,18 +48,24 @@ pub fn put_number(out: &mut Output, n: u32) -> Option<()>
     put_more(out, n)
 }
 
-// Four numbers behind one another. If each has one group, as mostly, the four are put at once.
-#[tactic(auto, using(crate::proofs::Turns::spelled_four), unfolding(crate::specs::Groups::spelled_all))]
-pub fn put_four(out: &mut Output, a: u32, b: u32, c: u32, d: u32) -> Option<()>
-    ensures { Adds out.old (spelled_all (a ∷ b ∷ c ∷ d ∷ [])) result out.new }
+// Five numbers behind one another. If each has one group, as mostly, and the fourth one or two, all
+// are put at once.
+#[tactic(auto, using(crate::proofs::Turns::spelled_five, crate::proofs::Turns::spelled_six), unfolding(crate::specs::Groups::spelled_all))]
+pub fn put_five(out: &mut Output, a: u32, b: u32, c: u32, d: u32, e: u32) -> Option<()>
+    ensures { Adds out.old (spelled_all (a ∷ b ∷ c ∷ d ∷ e ∷ [])) result out.new }
 {
-    if a < HIGH && b < HIGH && c < HIGH && d < HIGH {
-        return out.put(&[a as u8, b as u8, c as u8, d as u8]);
+    if a < HIGH && b < HIGH && c < HIGH && d < HIGH * HIGH && e < HIGH {
+        let (a, b, c, e) = (a as u8, b as u8, c as u8, e as u8);
+        if d < HIGH {
+            return out.put(&[a, b, c, d as u8, e]);
+        }
+        return out.put(&[a, b, c, (HIGH + d % HIGH) as u8, (d / HIGH) as u8, e]);
     }
     put_number(out, a)?;
     put_number(out, b)?;
     put_number(out, c)?;
-    put_number(out, d)
+    put_number(out, d)?;
+    put_number(out, e)
 }
 
 // The number at a place whose first group has the high bit, and is low without it.

@@ -9,4 +9,4 @@ lent r = record { events = r.events; queue = r.queue; openers = r.openers; label
 
 -- as they are made: zero, for 1,001 events, 2,001 records of the queue, 1,000 openers and 65,536 label bytes
 unfoldable pub sheet_rooms : Rooms
-sheet_rooms = record { events = replicate 7007 0; queue = replicate 16008 0; openers = replicate 4000 0; labels = replicate 65536 0 }
+sheet_rooms = record { events = replicate 8008 0; queue = replicate 16008 0; openers = replicate 4000 0; labels = replicate 65536 0 }

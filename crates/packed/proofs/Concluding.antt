@@ -3,13 +3,13 @@ use Rattle.std.specs.Prelude.{ℕ, ◌≡◌, ◌-◌, ◌*◌, ◌/◌, ◌≤�
 use Rattle.std.specs.Result.{result_unwrap_or}
 use Rattle.std.proofs.Common.{sym, ap, ◌∙◌, arith}
 use Rattle.std.proofs.lemmas.Bool.Decides.{nat_tests}
-use Rattle.reading.specs.declared.Event.{Event}
+use Rattle.reading.specs.declared.Located.{Located}
 use Rattle.reading.specs.Events.{event_numbers}
 use Rattle.reading.specs.Questions.{filled, numbers}
 use Rattle.outcome.specs.Outcomes.{kept}
 use Rattle.rooms.proofs.Rows.{rows-length}
-use Rattle.listing.specs.Listing.{event_at, listed}
-use Rattle.listing.proofs.Listed.{numbers-listed, numbers-length}
+use Rattle.listing.specs.Listing.{record_at, records}
+use Rattle.listing.proofs.Listed.{numbers-records, numbers-length}
 use Rattle.groups.proofs.Numbers.{Bytes}
 use Rattle.packing.specs.declared.FaultAt.{FaultAt}
 use Rattle.packing.specs.Packed.{packed, Flawed, first_flaw}
@@ -42,7 +42,7 @@ enough-packing events out h = by (first_flaw 0 0 (whole events)) refl
     by (Some f) e c = omega (arith, c)
     by None e c =
         let size = packed-size (whole events) e in
-        let count = rows-length event_at (length events / event_numbers) events in
+        let count = rows-length record_at (length events / event_numbers) events in
         grind (arith, nat_tests)
 
 -- the answer in numbers, and the room
@@ -56,37 +56,37 @@ written-packing events out out' r s e b a out'' w k =
 
 -- a list that was read, as the definition has it
 module _ (room room' : List ℕ) (size : length room' ≡ length room) where
-  abbrev records : ℕ
-  records = length room / event_numbers
+  abbrev many : ℕ
+  many = length room / event_numbers
 
   -- the room that the events stand in
-  room-read : (n : ℕ) (es : List Event) → listed n room' ≡ es → n ≡ length es → n ≤ records → kept (n * event_numbers) room' ≡ filled (numbers es) room
+  room-read : (n : ℕ) (es : List Located) → records n room' ≡ es → n ≡ length es → n ≤ many → kept (n * event_numbers) room' ≡ filled (numbers es) room
   room-read n es is c l =
-      let here : take (n * event_numbers) room' ≡ numbers es = sym (numbers-listed n room' (omega (arith, size))) ∙ ap numbers is in
+      let here : take (n * event_numbers) room' ≡ numbers es = sym (numbers-records n room' (omega (arith, size))) ∙ ap numbers is in
       let long : n * event_numbers ≡ length (numbers es) = ap (λ (k : ℕ). k * event_numbers) c ∙ sym (numbers-length es) in
       λ i. here i ++ replicate (size i - long i) 0
 
-  pub as_read : (g : Got (List Event)) (n : ℕ) → held records (Ok n) room' ≡ holding records g → n ≤ records → settled (Ok n) room' ≡ restored_as g room
+  pub as_read : (g : Got (List Located)) (n : ℕ) → held many (Ok n) room' ≡ holding many g → n ≤ many → settled (Ok n) room' ≡ restored_as g room
   unfolding held holding kept-events restored_as
   as_read (Ok (es, m)) n e l = grind (arith, nat_tests, room-read n es)
   as_read (Err w) n e l = cc
 
-  pub as-short : (g : Got (List Event)) (n : ℕ) → held records (Ok n) room' ≡ holding records g → records < n → settled (Err Short) room' ≡ restored_as g room
+  pub as-short : (g : Got (List Located)) (n : ℕ) → held many (Ok n) room' ≡ holding many g → many < n → settled (Err Short) room' ≡ restored_as g room
   unfolding held holding restored_as
   as-short (Ok (es, m)) n e l = grind (arith, nat_tests)
   as-short (Err w) n e l = cc
 
-  pub as-fault : (g : Got (List Event)) (w : FaultAt) → held records (Err w) room' ≡ holding records g → settled (Err (Faulty w)) room' ≡ restored_as g room
+  pub as-fault : (g : Got (List Located)) (w : FaultAt) → held many (Err w) room' ≡ holding many g → settled (Err (Faulty w)) room' ≡ restored_as g room
   unfolding held holding restored_as
   as-fault (Ok (es, m)) w e = cc
   as-fault (Err v) w e = grind arith
 
--- who lends a record for each four bytes is never refused for them
+-- who lends a record for each five bytes is never refused for them
 pub enough-unpacking : (bs room : List ℕ) → Bytes bs → enough_events (length bs) ≤ length room / event_numbers → (unpacking bs room).answer.code ≡ 13 → ⊥
 unfolding restored_as told
 enough-unpacking bs room y h = by (unpacked bs) refl
   where
-    by : (g : Got (List Event)) → unpacked bs ≡ g → (told (restored_as g room).answer).code ≡ 13 → ⊥
+    by : (g : Got (List Located)) → unpacked bs ≡ g → (told (restored_as g room).answer).code ≡ 13 → ⊥
     by (Err w) e c = omega (arith, c)
     by (Ok (es, m)) e c =
         let r = pack-unpacked bs y es m e in

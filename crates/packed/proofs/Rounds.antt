@@ -12,16 +12,18 @@ use lib.Dec.{leb}
 use lib.ListN.{length, get_or, take, replicate, length-append}
 use lib.Seq.{take_at}
 use Rattle.reading.specs.declared.Line.{Line}
-use Rattle.reading.specs.declared.Event.{Event}
+use Rattle.reading.specs.declared.Located.{Located}
 use Rattle.reading.specs.Events.{event_numbers}
 use Rattle.reading.specs.Reading.{sheet}
+use Rattle.reading.specs.Located.{located}
+use Rattle.reading.proofs.Locating.{located-length}
 use Rattle.reading.specs.Questions.{Rooms, Outcome, filled, numbers, label_room, outcome}
 use Rattle.reading.specs.Walked.{events}
 use Rattle.reading.proofs.Answers.{accepted}
 use Rattle.rooms.specs.Rows.{rows}
 use Rattle.rooms.proofs.Rows.{rows-length}
-use Rattle.listing.specs.Listing.{event_at, listed}
-use Rattle.listing.proofs.Listed.{listed-numbers, numbers-listed, numbers-length}
+use Rattle.listing.specs.Listing.{record_at, records}
+use Rattle.listing.proofs.Listed.{records-numbers, numbers-records, numbers-length}
 use Rattle.groups.proofs.Numbers.{Bytes}
 use Rattle.packing.specs.Packed.{packed, Flawed, first_flaw}
 use Rattle.packing.specs.Unpacked.{Got, unpacked}
@@ -35,23 +37,23 @@ use Rattle.packed.specs.Calls.{call, acceptance, packing_as, packing, restored_a
 abbrev pub Numbers : List ℕ → Type 0
 Numbers room = (i : ℕ) → get_or room i 0 < 4294967296
 
-narrow-more : (es : List Event) (e : Event) → AllNarrow es → Narrow e → AllNarrow (es ++ (e ∷ []))
+narrow-more : (es : List Located) (e : Located) → AllNarrow es → Narrow e → AllNarrow (es ++ (e ∷ []))
 unfolding AllNarrow
 narrow-more [] e n m = (m, tt)
 narrow-more (d ∷ es) e n m = (n.0, narrow-more es e n.1 m)
 
-narrow-listed : (n : ℕ) (room : List ℕ) → Numbers room → AllNarrow (listed n room)
+narrow-listed : (n : ℕ) (room : List ℕ) → Numbers room → AllNarrow (records n room)
 unfolding AllNarrow rows
 narrow-listed zero room y = tt
 narrow-listed (suc n) room y =
-    narrow-more (listed n room) (event_at room n) (narrow-listed n room y)
-    (record { end = omega (arith, y (n * event_numbers + 2)); home = omega (arith, y (n * event_numbers + 5)); link = omega (arith, y (n * event_numbers + 6)) })
+    narrow-more (records n room) (record_at room n) (narrow-listed n room y)
+    (record { end = omega (arith, y (n * event_numbers + 2)); home = omega (arith, y (n * event_numbers + 5)); link = omega (arith, y (n * event_numbers + 6)); line = omega (arith, y (n * event_numbers + 7)) })
 
 -- the numbers of some events are their list
-whole_numbers : (es : List Event) → whole (numbers es) ≡ es
+whole_numbers : (es : List Located) → whole (numbers es) ≡ es
 whole_numbers es =
     let count : length (numbers es) / event_numbers ≡ length es = omega (arith, numbers-length es) in
-    (λ i. listed (count i) (sym (append-nil (numbers es)) i)) ∙ listed-numbers es []
+    (λ i. records (count i) (sym (append-nil (numbers es)) i)) ∙ records-numbers es []
 
 -- a list that is accepted has no flaw, and its bytes fit
 packing-accepted : (f : Flawed) (bs out : List ℕ) → (packing_as f bs out).answer.code ≡ 0 → (f ≡ None) × (packing_as f bs out ≡ call (acceptance (length bs)) (filled bs out))
@@ -68,7 +70,7 @@ filled-front : (l room : List ℕ) (n : ℕ) → length l ≡ n → take n (fill
 filled-front l room n e = take_at l (replicate (length room - length l) 0) n e
 
 -- the same of bytes that are read
-unpacking-read : (bs room : List ℕ) (es : List Event) (m : ℕ) → unpacked bs ≡ Ok (es, m) → length es ≤ length room / event_numbers
+unpacking-read : (bs room : List ℕ) (es : List Located) (m : ℕ) → unpacked bs ≡ Ok (es, m) → length es ≤ length room / event_numbers
     → unpacking bs room ≡ call (acceptance (length es)) (filled (numbers es) room)
 unfolding restored_as told
 unpacking-read bs room es m e l = grind (arith, nat_tests)
@@ -82,10 +84,10 @@ there_and_back events out room y c l =
     let n = length events / event_numbers in
     let es = whole events in
     let r = packing-accepted (first_flaw 0 0 es) (packed es) out c in
-    let count : length es ≡ n = rows-length event_at n events in
+    let count : length es ≡ n = rows-length record_at n events in
     ap (λ (bs : List ℕ). unpacking bs room) ((λ i. take (r.1 i).answer.count (r.1 i).room) ∙ filled-front (packed es) out (length (packed es)) refl)
     ∙ unpacking-read (packed es) room es (length (packed es)) (unpack-packed es (narrow-listed n events y) r.0) (omega (arith, l, count))
-    ∙ (λ i. call (acceptance (count i)) (filled (numbers-listed n events (omega arith) i) room))
+    ∙ (λ i. call (acceptance (count i)) (filled (numbers-records n events (omega arith) i) room))
 
 -- packing an unpacked list restores the bytes
 pub back-and-there : (bs room out : List ℕ) → Bytes bs → (unpacking bs room).answer.code ≡ 0 → length bs ≤ length out
@@ -94,7 +96,7 @@ pub back-and-there : (bs room out : List ℕ) → Bytes bs → (unpacking bs roo
 unfolding restored_as told
 back-and-there bs room out y c l = by (unpacked bs) refl c
   where
-    by : (g : Got (List Event)) → unpacked bs ≡ g → (told (restored_as g room).answer).code ≡ 0
+    by : (g : Got (List Located)) → unpacked bs ≡ g → (told (restored_as g room).answer).code ≡ 0
         → let u = unpacking bs room in
         packing (take (u.answer.count * event_numbers) u.room) out ≡ call (acceptance (length bs)) (filled bs out)
     by (Err w) e c = absurd (omega (arith, c))
@@ -119,8 +121,11 @@ module _ (text : List ℕ) (ls : List Line) (reading : ℕ) (rooms : Rooms) (e :
   abbrev o : Outcome
   o = outcome text ls reading rooms
 
-  abbrev es : List Event
-  es = events (sheet text ls reading (label_room rooms.labels)) ls
+  abbrev es : List Located
+  es = located ls (events (sheet text ls reading (label_room rooms.labels)) ls)
+
+  long : length es ≡ length (events (sheet text ls reading (label_room rooms.labels)) ls)
+  long = located-length ls (events (sheet text ls reading (label_room rooms.labels)) ls)
 
   abbrev list : List ℕ
   list = take (o.answer.events * event_numbers) o.rooms.events
@@ -128,13 +133,13 @@ module _ (text : List ℕ) (ls : List Line) (reading : ℕ) (rooms : Rooms) (e :
   handed : list ≡ numbers es
   handed =
       let a = accepted text ls reading rooms e in
-      (λ i. take (a.count i * event_numbers) (a.handed i)) ∙ filled-front (numbers es) rooms.events (length es * event_numbers) (numbers-length es)
+      (λ i. take ((a.count ∙ sym long) i * event_numbers) (a.handed i)) ∙ filled-front (numbers es) rooms.events (length es * event_numbers) (numbers-length es)
 
   -- the records stand in the event room
   pub events-within : o.answer.events * event_numbers ≤ length o.rooms.events
   events-within =
       let a = accepted text ls reading rooms e in
-      omega (arith, a.count, ap length a.handed, length-append (numbers es) (replicate (length rooms.events - length (numbers es)) 0), numbers-length es)
+      omega (arith, long, a.count, ap length a.handed, length-append (numbers es) (replicate (length rooms.events - length (numbers es)) 0), numbers-length es)
 
   pub sheet-packs : (out : List ℕ) → packing list out ≡ packing_as None (packed es) out
   sheet-packs out =
@@ -147,4 +152,4 @@ module _ (text : List ℕ) (ls : List Line) (reading : ℕ) (rooms : Rooms) (e :
   sheet-packed out h =
       let a = accepted text ls reading rooms e in
       let size = (packed-size es (sheet-sound text ls reading rooms e)).1 in
-      sheet-packs out ∙ accepted-packing None (packed es) out refl (omega (arith, h, size, a.count))
+      sheet-packs out ∙ accepted-packing None (packed es) out refl (omega (arith, long, h, size, a.count))

@@ -3,7 +3,7 @@
 -- at both; the output is zero behind them and after both".
 use Rattle.std.specs.Prelude.{ℕ, ◌+◌, ◌*◌, ◌/◌, List, true, false, leb, length, codes, Some, None, Result, Ok, Err}
 use Rattle.std.specs.Result.{result_unwrap_or}
-use Rattle.reading.specs.declared.Event.{Event}
+use Rattle.reading.specs.declared.Located.{Located}
 use Rattle.reading.specs.Events.{event_numbers}
 use Rattle.reading.specs.Questions.{zeros, filled, numbers}
 use Rattle.outcome.specs.Outcomes.{kept}
@@ -51,7 +51,7 @@ abbrev pub restoring : Result ℕ UnpackError → List ℕ → Restoring
 restoring r room = record { answer = r; room = room }
 
 -- 12: are the bytes a packed list? 13: does the room hold the events?
-unfoldable pub restored_as : Got (List Event) → List ℕ → Restoring
+unfoldable pub restored_as : Got (List Located) → List ℕ → Restoring
 restored_as (Err f) room = restoring (Err (Faulty f)) (zeros room)
 restored_as (Ok (es, next)) room =
     elim (leb (length es) (length room / event_numbers)) [
@@ -86,10 +86,10 @@ meaning Short = codes "the events are more than the event room holds"
 abbrev pub unpacking : List ℕ → List ℕ → Call
 unpacking bytes room = call (told (restored bytes room).answer) (restored bytes room).room
 
--- so many bytes always hold so many events; and so many events are in no fewer bytes than four
+-- so many bytes always hold so many events; and so many events are in no fewer bytes than five
 -- times as many
 abbrev pub enough_bytes : ℕ → ℕ
-enough_bytes n = 27 * n + 5
+enough_bytes n = 32 * n + 5
 
 abbrev pub enough_events : ℕ → ℕ
-enough_events bytes = bytes / 4
+enough_events bytes = bytes / 5

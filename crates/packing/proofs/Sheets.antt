@@ -13,9 +13,11 @@ use Rattle.reading.specs.declared.Home.{Home}
 use Rattle.reading.specs.Events.{home_of}
 use Rattle.reading.specs.Homes.{has_home, has_link, HomeBy, LinkBy, AllHomed}
 use Rattle.reading.specs.Reading.{sheet, end_of}
+use Rattle.reading.specs.Located.{located}
 use Rattle.reading.specs.Questions.{Rooms, label_room, outcome}
 use Rattle.reading.specs.Walked.{Ordered, events}
 use Rattle.reading.proofs.Answers.{accepted, homed, short}
+use Rattle.reading.proofs.Locating.{located-length}
 use Rattle.packing.specs.Packed.{present, may_have, first_flaw}
 use Rattle.packing.proofs.Lists.{AllWritable, none_first}
 
@@ -35,10 +37,10 @@ unfolding LinkBy
 unlinked-by h true l e = cc
 unlinked-by h false l e = l
 
-homed-writable : (text labels : ℕ) (a : ℕ) (es : List Event) (b : ℕ) → Ordered a es b → AllHomed text labels es → AllWritable a es
-unfolding Ordered AllHomed AllWritable
-homed-writable text labels a [] b o h = tt
-homed-writable text labels a (e ∷ es) b o h =
+homed-writable : (text labels : ℕ) (ls : List Line) (a : ℕ) (es : List Event) (b : ℕ) → Ordered a es b → AllHomed text labels es → AllWritable a (located ls es)
+unfolding Ordered AllHomed AllWritable located
+homed-writable text labels ls a [] b o h = tt
+homed-writable text labels ls a (e ∷ es) b o h =
     let k = kept_by text labels e.kind (home_of e) (has_home e.kind) refl h.0.home in (
       record {
         kind = h.0.there;
@@ -49,14 +51,14 @@ homed-writable text labels a (e ∷ es) b o h =
         homeless = k.homeless;
         unlinked = unlinked-by (home_of e) (has_link e.kind) h.0.link;
       },
-      homed-writable text labels e.end.0 es b o.2 h.1,
+      homed-writable text labels ls e.end.0 es b o.2 h.1,
     )
 
 -- of each sheet that is read
 pub sheet-sound : (text : List ℕ) (ls : List Line) (reading : ℕ) (rooms : Rooms) → (outcome text ls reading rooms).answer.code ≡ 0
-    → first_flaw 0 0 (events (sheet text ls reading (label_room rooms.labels)) ls) ≡ None
+    → first_flaw 0 0 (located ls (events (sheet text ls reading (label_room rooms.labels)) ls)) ≡ None
 sheet-sound text ls reading rooms e =
     let a = accepted text ls reading rooms e in
     let o = outcome text ls reading rooms in
-    none_first 0 0 _ (homed-writable (length text) o.answer.labels 0 _ (end_of ls 0) a.whole.ordered (homed text ls reading rooms e).homes)
-    (omega (arith, a.whole.room, short text ls reading rooms e))
+    none_first 0 0 _ (homed-writable (length text) o.answer.labels ls 0 _ (end_of ls 0) a.whole.ordered (homed text ls reading rooms e).homes)
+    (omega (arith, located-length ls (events (sheet text ls reading (label_room rooms.labels)) ls), a.whole.room, short text ls reading rooms e))

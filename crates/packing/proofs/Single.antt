@@ -10,6 +10,7 @@ use native.Mathlib.Omega.{arith}
 use borrow.Author.Tests.{leb-true, le-leb}
 use lib.Dec.{leb}
 use Rattle.reading.specs.declared.Event.{Event}
+use Rattle.reading.specs.declared.Located.{Located}
 use Rattle.reading.specs.declared.Home.{Home}
 use Rattle.reading.specs.Events.{place, link, homed, home_of}
 use Rattle.reading.specs.Homes.{container_of, known, has_link}
@@ -30,10 +31,11 @@ pub record Writable (prev : ℕ) (e : Event) : Type 0 where
   pub unlinked : has_link e.kind ≡ false → e.link.0 ≡ 0
 
 -- numbers of 32 bits
-pub record Narrow (e : Event) : Type 0 where
-  pub end : e.end.0 ≤ largest
-  pub home : e.home_end.0 ≤ largest
-  pub link : e.link.0 ≤ largest
+pub record Narrow (r : Located) : Type 0 where
+  pub end : r.event.end.0 ≤ largest
+  pub home : r.event.home_end.0 ≤ largest
+  pub link : r.event.link.0 ≤ largest
+  pub line : r.line ≤ largest
 
 module _ (i prev : ℕ) (e : Event) where
   pub flaw-none : flaw_of i prev e ≡ None → Writable prev e × (i < largest)
@@ -106,24 +108,28 @@ module _ (bytes : List ℕ) (e : Event) where
       (given (present e.home) (e.home_end.0 - e.home_start.0)
       (given (has_link e.kind) e.link.0 []))
 
-  home_read : (prev at to : ℕ) → Writable prev e → Narrow e → Stands bytes at (e.home ∷ behind) to → home_from bytes e.kind at ≡ Ok (home_of e, to)
+  home_read : (prev at to : ℕ) → Writable prev e → e.home_end.0 ≤ largest → Stands bytes at (e.home ∷ behind) to → home_from bytes e.kind at ≡ Ok (home_of e, to)
   unfolding Stands
   home_read prev at to w n s =
       let a = asked-got bytes at (may_have e.kind) WrongHome (λ n. n) e.home s.0 s.1 w.home in
       let b = given-read bytes s.0 (a_number bytes) e.home_start.0 e.home_start.0 _ to (present e.home) (λ z. (w.homeless z).0) (λ m q. q) s.2 in
       let c = given-read bytes b.0 (a_sum bytes e.home_start.0) (e.home_end.0 - e.home_start.0) e.home_end.0 _ to (present e.home) (λ z. (w.homeless z).1)
-      (λ m q. sum-read bytes e.home_start.0 b.0 e.home_end.0 m w.range n.home q) b.2 in
+      (λ m q. sum-read bytes e.home_start.0 b.0 e.home_end.0 m w.range n q) b.2 in
       let d = given-read bytes c.0 (a_number bytes) e.link.0 e.link.0 [] to (has_link e.kind) w.unlinked (λ m q. q) c.2 in
       on_then _ a ∙ on_then _ b.1 ∙ on_then _ c.1 ∙ on_then _ d.1 ∙ ap (λ (k : ℕ). Ok (home_of e, k)) d.2
 
-  pub numbers-read : (prev at to : ℕ) → Writable prev e → Narrow e → Stands bytes at (fields prev e) to → event_from bytes prev at ≡ Ok (e, to)
+module _ (bytes : List ℕ) (l : Located) where
+  abbrev e : Event
+  e = l.event
+
+  pub numbers-read : (prev at to : ℕ) → Writable prev e → Narrow l → Stands bytes at (fields prev l) to → event_from bytes prev at ≡ Ok (l, to)
   unfolding Stands fields
   numbers-read prev at to w n s =
       let a = asked-got bytes at known UnknownKind (λ n. n) e.kind s.0 s.1 w.kind in
       let b = sum-read bytes prev s.0 e.start.0 s.2.0 w.late (omega (arith, w.span, n.end)) s.2.1 in
       let c = sum-read bytes e.start.0 s.2.0 e.end.0 s.2.2.0 w.span n.end s.2.2.1 in
-      let d = home_read prev s.2.2.0 to w n s.2.2.2 in
-      on_then _ a ∙ on_then _ b ∙ on_then _ c ∙ on_then _ d
+      let d = home_read bytes e prev s.2.2.2.0 to w n.home s.2.2.2.2 in
+      on_then _ a ∙ on_then _ b ∙ on_then _ c ∙ on_then _ s.2.2.2.1 ∙ on_then _ d
 
 -- a home that was read, of a kind
 record HomeRead (bytes : List ℕ) (at kind : ℕ) (h : Home) (to : ℕ) : Type 0 where
@@ -181,21 +187,21 @@ module _ (bytes : List ℕ) where
           subst (λ (k : ℕ). HomeRead bytes at kind h k) same.1 (subst (λ (x : Home). HomeRead bytes at kind x m) same.0 r)
 
 -- what is read of an event: it can be written, and its numbers stand there
-pub record Read (bytes : List ℕ) (prev at : ℕ) (e : Event) (to : ℕ) : Type 0 where
-  pub writable : Writable prev e
-  pub end : e.end.0 ≤ largest
-  pub home : e.home_end.0 ≤ largest
-  pub stands : Stands bytes at (fields prev e) to
+pub record Read (bytes : List ℕ) (prev at : ℕ) (l : Located) (to : ℕ) : Type 0 where
+  pub writable : Writable prev l.event
+  pub end : l.event.end.0 ≤ largest
+  pub home : l.event.home_end.0 ≤ largest
+  pub stands : Stands bytes at (fields prev l) to
 
 module _ (bytes : List ℕ) (prev at : ℕ) where
-  event-of : (kind a start b end c : ℕ) (h : Home) (d : ℕ) → a_kind bytes at ≡ Ok (kind, a) → a_sum bytes prev a ≡ Ok (start, b) → a_sum bytes start b ≡ Ok (end, c)
-      → home_from bytes kind c ≡ Ok (h, d) → Read bytes prev at (homed kind h start end) d
+  event-of : (kind a start b end c line i : ℕ) (h : Home) (d : ℕ) → a_kind bytes at ≡ Ok (kind, a) → a_sum bytes prev a ≡ Ok (start, b) → a_sum bytes start b ≡ Ok (end, c)
+      → a_number bytes c ≡ Ok (line, i) → home_from bytes kind i ≡ Ok (h, d) → Read bytes prev at (record { event = homed kind h start end; line = line }) d
   unfolding Stands fields
-  event-of kind a start b end c h d x y z w =
+  event-of kind a start b end c line i h d x y z v w =
       let k = got-asked bytes at known UnknownKind (λ n. n) kind a x in
       let s = read-sum bytes prev a start b y in
       let t = read-sum bytes start b end c z in
-      let r = home_found bytes c kind h d w in
+      let r = home_found bytes i kind h d w in
       record {
         writable = record {
           kind = subst (λ (m : ℕ). known m ≡ true) k.3 k.2;
@@ -208,21 +214,22 @@ module _ (bytes : List ℕ) (prev at : ℕ) where
         };
         end = t.2;
         home = r.narrow;
-        stands = (a, k.1 ∙ ap (λ (m : ℕ). Ok (m, a)) k.3, (b, s.0, (c, t.0, r.stands)));
+        stands = (a, k.1 ∙ ap (λ (m : ℕ). Ok (m, a)) k.3, (b, s.0, (c, t.0, (i, v, r.stands))));
       }
 
-  pub event-found : (e : Event) (to : ℕ) → event_from bytes prev at ≡ Ok (e, to) → Read bytes prev at e to
+  pub event-found : (e : Located) (to : ℕ) → event_from bytes prev at ≡ Ok (e, to) → Read bytes prev at e to
   event-found e to h =
       let a = on-got _ _ _ _ h in
       let b = on-got _ _ _ _ a.3 in
       let c = on-got _ _ _ _ b.3 in
       let d = on-got _ _ _ _ c.3 in
-      as_read _ e _ to d.3 (event-of a.0 a.1 b.0 b.1 c.0 c.1 d.0 d.1 a.2 b.2 c.2 d.2)
+      let k = on-got _ _ _ _ d.3 in
+      as_read _ e _ to k.3 (event-of a.0 a.1 b.0 b.1 c.0 c.1 d.0 d.1 k.0 k.1 a.2 b.2 c.2 d.2 k.2)
     where
-      as_read : (g e : Event) (m to : ℕ) → ◌≡◌ {A = Got Event} (Ok (g, m)) (Ok (e, to)) → Read bytes prev at g m → Read bytes prev at e to
+      as_read : (g e : Located) (m to : ℕ) → ◌≡◌ {A = Got Located} (Ok (g, m)) (Ok (e, to)) → Read bytes prev at g m → Read bytes prev at e to
       as_read g e m to h r =
           let same = same-got g e m to h in
-          subst (λ (k : ℕ). Read bytes prev at e k) same.1 (subst (λ (x : Event). Read bytes prev at x m) same.0 r)
+          subst (λ (k : ℕ). Read bytes prev at e k) same.1 (subst (λ (x : Located). Read bytes prev at x m) same.0 r)
 
 -- kinds and homes are low
 pub known-low : (kind : ℕ) → known kind ≡ true → kind ≤ 80
@@ -244,29 +251,36 @@ unfolding Small given
 small-given true n ns s = (λ e. s.0, s.1)
 small-given false n ns s = (λ e. cc, s)
 
-pub fields-small : (prev : ℕ) (e : Event) → Writable prev e → Narrow e → Small (fields prev e)
+pub fields-small : (prev : ℕ) (l : Located) → Writable prev l.event → Narrow l → Small (fields prev l)
 unfolding Small fields
-fields-small prev e w n = (
-  omega (arith, known-low e.kind w.kind),
+fields-small prev l w n = (
+  omega (arith, known-low l.event.kind w.kind),
   (
     omega (arith, w.span, n.end),
     (
       omega (arith, n.end),
       (
-        omega (arith, home-low e.kind e.home w.home),
-        given-small _ _ _ (omega (arith, w.range, n.home)) (given-small _ _ _ (omega (arith, n.home)) (given-small _ _ [] n.link tt)),
+        n.line,
+        (
+          omega (arith, home-low l.event.kind l.event.home w.home),
+          given-small _ _ _ (omega (arith, w.range, n.home)) (given-small _ _ _ (omega (arith, n.home)) (given-small _ _ [] n.link tt)),
+        ),
       ),
     ),
   ),
 )
 
-pub link-small : (prev : ℕ) (e : Event) → Writable prev e → Small (fields prev e) → e.link.0 ≤ largest
+pub line-small : (prev : ℕ) (l : Located) → Small (fields prev l) → l.line ≤ largest
 unfolding Small fields
-link-small prev e w s =
-    let a = small-given _ _ _ s.1.1.1.1 in
+line-small prev l s = s.1.1.1.0
+
+pub link-small : (prev : ℕ) (l : Located) → Writable prev l.event → Small (fields prev l) → l.event.link.0 ≤ largest
+unfolding Small fields
+link-small prev l w s =
+    let a = small-given _ _ _ s.1.1.1.1.1 in
     let b = small-given _ _ _ a.1 in
-    by (has_link e.kind) refl (small-given _ _ [] b.1).0
+    by (has_link l.event.kind) refl (small-given _ _ [] b.1).0
   where
-    by : (t : Bool) → has_link e.kind ≡ t → (has_link e.kind ≡ true → e.link.0 ≤ largest) → e.link.0 ≤ largest
+    by : (t : Bool) → has_link l.event.kind ≡ t → (has_link l.event.kind ≡ true → l.event.link.0 ≤ largest) → l.event.link.0 ≤ largest
     by true t f = f t
     by false t f = omega (arith, w.unlinked t)

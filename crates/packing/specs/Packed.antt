@@ -1,10 +1,12 @@
--- A packed list, as it is written (document 02, L4): "event count, then per event kind, start minus
--- the previous end (0 before the first), length, home; if home is not 0, home start and home
--- length; for kinds 44 to 47 and 76 to 79, the link number". And what the writer refuses.
+-- A packed list, as it is written (document 02, L4 and L5): "event count, then per event kind, start
+-- minus the previous end (0 before the first), length", the line, "home; if home is not 0, home
+-- start and home length; for kinds 44 to 47 and 76 to 79, the link number". And what the writer
+-- refuses.
 use Rattle.std.specs.Prelude.{ℕ, suc, ◌-◌, List, [], ◌∷◌, ◌++◌, Bool, true, false, not, ◌&&◌, ◌||◌, leb, ltb, eqb, length, Option, Some, None}
 use Rattle.std.specs.Option.{option_or}
 use Rattle.groups.specs.Groups.{spelled_all}
 use Rattle.reading.specs.declared.Event.{Event}
+use Rattle.reading.specs.declared.Located.{Located}
 use Rattle.reading.specs.Events.{home_none, home_labels}
 use Rattle.reading.specs.Homes.{known, has_home, has_link}
 
@@ -21,25 +23,27 @@ unfoldable pub given : Bool → ℕ → List ℕ → List ℕ
 given true n ns = n ∷ ns
 given false n ns = ns
 
--- the numbers of an event behind one that ends at prev
-unfoldable pub fields : ℕ → Event → List ℕ
-fields prev e =
+-- the numbers of an event on a line, behind one that ends at prev
+unfoldable pub fields : ℕ → Located → List ℕ
+fields prev r =
+    let e = r.event in
     e.kind
     ∷ (e.start.0 - prev)
     ∷ (e.end.0 - e.start.0)
+    ∷ r.line
     ∷ e.home
     ∷ given (present e.home) e.home_start.0
     (given (present e.home) (e.home_end.0 - e.home_start.0)
     (given (has_link e.kind) e.link.0 []))
 
 -- of each event, 0 being the end before the first
-unfoldable pub fields_all : ℕ → List Event → List ℕ
+unfoldable pub fields_all : ℕ → List Located → List ℕ
 fields_all prev [] = []
-fields_all prev (e ∷ es) = fields prev e ++ fields_all e.end.0 es
+fields_all prev (r ∷ rs) = fields prev r ++ fields_all r.event.end.0 rs
 
 -- the bytes of a list
-abbrev pub packed : List Event → List ℕ
-packed es = spelled_all (length es ∷ fields_all 0 es)
+abbrev pub packed : List Located → List ℕ
+packed rs = spelled_all (length rs ∷ fields_all 0 rs)
 
 -- what the writer refuses: "such a kind or home, a span or home end before its start, a start
 -- before the previous end, a field without meaning that is not 0, or 4,294,967,295 events before
@@ -75,6 +79,7 @@ flaw_of i prev e =
     (option_or (unless (idle e) meaning i)
     (unless (ltb i largest) many i)))))
 
-unfoldable pub first_flaw : ℕ → ℕ → List Event → Flawed
+-- a line has a meaning, whatever its number
+unfoldable pub first_flaw : ℕ → ℕ → List Located → Flawed
 first_flaw i prev [] = None
-first_flaw i prev (e ∷ es) = option_or (flaw_of i prev e) (first_flaw (suc i) e.end.0 es)
+first_flaw i prev (r ∷ rs) = option_or (flaw_of i prev r.event) (first_flaw (suc i) r.event.end.0 rs)

@@ -1,4 +1,4 @@
--- A packed list, as it is read (document 02, L4): "The reader stops at the first fault". "cut short
+-- A packed list, as it is read (document 02, L4 and L5): "The reader stops at the first fault". "cut short
 -- (place the length), longer than needed, too large (a fifth byte over 15), a start or end beyond
 -- the largest, an unknown kind (32 and 64 among them), a home over 2 or on a kind without one,
 -- bytes left over; its place is else the first byte of that number or rest".
@@ -6,7 +6,7 @@ use Rattle.std.specs.Prelude.{ℕ, zero, suc, ◌+◌, List, [], ◌∷◌, Bool
 use Rattle.groups.specs.declared.NumberError.{NumberError}
 use Rattle.groups.specs.declared.NumberError.TheVariants as number
 use Rattle.groups.specs.Groups.{number_at}
-use Rattle.reading.specs.declared.Event.{Event}
+use Rattle.reading.specs.declared.Located.{Located}
 use Rattle.reading.specs.declared.Home.{Home}
 use Rattle.reading.specs.Events.{place, link, homed}
 use Rattle.reading.specs.Homes.{known, has_link}
@@ -83,42 +83,43 @@ home_from bytes kind = do
   home ← a_home bytes kind
   with_range bytes kind home
 
--- an event behind one that ends at prev
-abbrev pub with_home : List ℕ → ℕ → ℕ → ℕ → Reads Event
-with_home bytes kind start end = do
+-- an event with its line, behind one that ends at prev
+abbrev pub with_home : List ℕ → ℕ → ℕ → ℕ → ℕ → Reads Located
+with_home bytes kind start end line = do
   h ← home_from bytes kind
-  pure (homed kind h start end)
+  pure (record { event = homed kind h start end; line = line })
 
-abbrev pub with_span : List ℕ → ℕ → ℕ → Reads Event
+abbrev pub with_span : List ℕ → ℕ → ℕ → Reads Located
 with_span bytes prev kind = do
   start ← a_sum bytes prev
   end ← a_sum bytes start
-  with_home bytes kind start end
+  line ← a_number bytes
+  with_home bytes kind start end line
 
-abbrev pub event_from : List ℕ → ℕ → Reads Event
+abbrev pub event_from : List ℕ → ℕ → Reads Located
 event_from bytes prev = do
   kind ← a_kind bytes
   with_span bytes prev kind
 
 -- so many events
-unfoldable pub events_from : List ℕ → ℕ → ℕ → Reads (List Event)
+unfoldable pub events_from : List ℕ → ℕ → ℕ → Reads (List Located)
 events_from bytes zero prev = pure []
 events_from bytes (suc n) prev = do
-  e ← event_from bytes prev
-  es ← events_from bytes n e.end.0
-  pure (e ∷ es)
+  r ← event_from bytes prev
+  rs ← events_from bytes n r.event.end.0
+  pure (r ∷ rs)
 
 -- nothing is left over
 abbrev pub at_end : {A : Type 0} → List ℕ → A → Reads A
 at_end bytes a at = if_sound (leb (length bytes) at) Rest at a at
 
 -- count and events
-abbrev pub list_from : List ℕ → Reads (List Event)
+abbrev pub list_from : List ℕ → Reads (List Located)
 list_from bytes = do
   n ← a_number bytes
-  es ← events_from bytes n 0
-  at_end bytes es
+  rs ← events_from bytes n 0
+  at_end bytes rs
 
 -- the events of a packed list, and the place behind them
-abbrev pub unpacked : List ℕ → Got (List Event)
+abbrev pub unpacked : List ℕ → Got (List Located)
 unpacked bytes = list_from bytes 0

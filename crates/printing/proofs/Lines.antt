@@ -1,6 +1,7 @@
 -- Numbers on a line, and events line by line.
 use Rattle.std.proofs.Common.{◌≡◌, ℕ, zero, suc, ◌+◌, ◌<◌, ◌≤◌, List, [], ◌∷◌, ◌++◌, map, length, get_or, take, decimal, refl, ap, ◌∙◌, arith, add-one, append_assoc, ◌/◌, length-append, drop, take_at, drop_at}
 use Rattle.std.specs.List.{join_with_byte}
+use Rattle.reading.specs.Events.{event_numbers}
 use Rattle.printing.specs.Printed.{numbers_line, event_lines, events_text}
 
 -- numbers with a blank between each two
@@ -26,14 +27,14 @@ joined_first (x ∷ ns) zero h p = refl
 joined_first (x ∷ ns) (suc i) h p = absurd (omega arith)
 
 -- the events of a list: the first, and the others; and none in fewer numbers than an event has
-pub events_text-first : (x rest : List ℕ) → length x ≡ 7 → numbers_line x ++ events_text rest ≡ events_text (x ++ rest)
+pub events_text-first : (x rest : List ℕ) → length x ≡ event_numbers → numbers_line x ++ events_text rest ≡ events_text (x ++ rest)
 unfolding event_lines
 events_text-first x rest h =
-    let n : length (x ++ rest) / 7 ≡ suc (length rest / 7) = omega (arith, length-append x rest) in
-    let front : take 7 (x ++ rest) ≡ x = take_at x rest 7 h in
-    let behind : drop 7 (x ++ rest) ≡ rest = drop_at x rest 7 h in
+    let n : length (x ++ rest) / event_numbers ≡ suc (length rest / event_numbers) = omega (arith, length-append x rest) in
+    let front : take event_numbers (x ++ rest) ≡ x = take_at x rest event_numbers h in
+    let behind : drop event_numbers (x ++ rest) ≡ rest = drop_at x rest event_numbers h in
     rw (n, event_lines, front, behind)
 
-pub events_text-none : (rest : List ℕ) → length rest < 7 → events_text rest ≡ []
+pub events_text-none : (rest : List ℕ) → length rest < event_numbers → events_text rest ≡ []
 unfolding event_lines
-events_text-none rest h = let n : length rest / 7 ≡ 0 = omega arith in rw (n, event_lines)
+events_text-none rest h = let n : length rest / event_numbers ≡ 0 = omega arith in rw (n, event_lines)

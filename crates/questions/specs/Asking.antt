@@ -48,7 +48,7 @@ unfoldable pub concluded : List ℕ → List Line → ℕ → Rooms → Result (
 concluded text ls reading rooms (Err r) = refuses (code_of r) (place_of r) rooms
 concluded text ls reading rooms (Ok _) =
     let s = read (sheet text ls reading (label_room rooms.labels)) ls in
-    judged s.refused s.fits s rooms
+    judged ls s.refused s.fits s rooms
 
 -- a sheet that passes them
 pub record Passed (text : List ℕ) (ls : List Line) (q o : List ℕ) : Type 0 where

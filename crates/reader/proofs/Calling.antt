@@ -2,7 +2,7 @@
 use Rattle.std.specs.Prelude.{Result, Ok, Err}
 use Prim.Native.Nat.{ℕ, ◌+◌, ◌/◌, ◌≤◌}
 use mathlib.Core.Path.{◌≡◌, sym, ap, ◌∙◌, subst}
-use mathlib.Core.List.{List}
+use mathlib.Core.List.{List, []}
 use lib.ListN.{length}
 use Rattle.reading.specs.declared.Answer.{Answer}
 use Rattle.reading.specs.declared.Line.{Line}
@@ -20,7 +20,7 @@ use Rattle.inline.specs.Asks.{StandsFor}
 use Rattle.outcome.specs.Outcomes.{rooms_of, outcome_of}
 use Rattle.questions.specs.Asking.{asked_of, concluded}
 use Rattle.questions.proofs.Asking.{outcome-asked}
-use Rattle.reader.proofs.Ending.{judged-rooms}
+use Rattle.reader.proofs.Ending.{with_lines, judged-lined, judged-rooms}
 
 -- an outcome, and what is owed of it
 pub record Owed (text : List ℕ) (ls : List Line) (reading : ℕ) (rooms : Rooms) (x : Outcome) : Type 0 where
@@ -55,11 +55,12 @@ module _ (text : List ℕ) (ls : List Line) (reading : ℕ) (e q o l : List ℕ)
   -- and what comes of a sheet that is read
   pub owed_all : {u : Unit {0}} → a ≡ Ok u → {p : Status} {q' o' l' : List ℕ} → StandsFor p q' o' l' (read (sheet text ls reading (label_room l)) ls)
       → length q' ≡ length q → length o' ≡ length o → length l' ≡ length l → {x : Outcome}
-      → x ≡ judged p.refused p.fits (stands p q' o' l') (rooms_of e q' o' l') → Owed text ls reading (rooms_of e q o l) x
+      → x ≡ judged [] p.refused p.fits (stands p q' o' l') (rooms_of e q' o' l') → Owed text ls reading (rooms_of e q o l) (with_lines ls x)
   unfolding concluded
   owed_all k {p} {q'} {o'} {l'} s u v w g =
       owed
-      (g
-      ∙ ap (λ (z : State). judged z.refused z.fits z (rooms_of e q' o' l')) s.same
-      ∙ judged-rooms _ _ _ e q o l q' o' l' u v w
+      (ap (with_lines ls) g
+      ∙ judged-lined ls _ _ _ _
+      ∙ ap (λ (z : State). judged ls z.refused z.fits z (rooms_of e q' o' l')) s.same
+      ∙ judged-rooms ls _ _ _ e q o l q' o' l' u v w
       ∙ concludes k)

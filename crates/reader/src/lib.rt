@@ -1,6 +1,6 @@
 #![tactic(auto)]
 // The reader: a sheet is asked, read into lent rooms and judged.
-ghost use Rattle.std.specs.Prelude.{◌≡◌, ◌+◌, ◌*◌, ◌/◌, ◌^◌, ◌≤◌, ◌<◌, length, OnOk};
+ghost use Rattle.std.specs.Prelude.{[], ◌≡◌, ◌+◌, ◌*◌, ◌/◌, ◌^◌, ◌≤◌, ◌<◌, length, OnOk};
 ghost use Rattle.reading.specs.Events.{event_numbers, queue_numbers};
 ghost use Rattle.reading.specs.Draining.{drain};
 ghost use Rattle.reading.specs.Reading.{sheet, read as read_of};
@@ -54,10 +54,10 @@ fn hand_out(p: Status, events: &mut [u32], queue: &[u32]) -> Result<usize, Refus
     }
 }
 
-// Questions 7 to 9, of what was read, and what the rooms hold then.
+// Questions 7 to 9, of what was read, and what the rooms hold then, but for the lines of events.
 fn judge(p: Status, rooms: &mut Rooms) -> Answer
     requires { Parsed p rooms.old.queue.now rooms.old.labels.now }
-    ensures value { left_by result rooms.new ≡ judged p.refused p.fits
+    ensures value { left_by result rooms.new ≡ judged [] p.refused p.fits
         (stands p rooms.old.queue.now rooms.old.openers.now rooms.old.labels.now) (held rooms.old) }
     ensures lent { Lent rooms.old rooms.new }
 {
@@ -99,7 +99,9 @@ pub fn read_lines<L: Lines>(
                 openers,
                 labels,
             };
-            judge(p, &mut rooms)
+            let answer = judge(p, &mut rooms);
+            locate::locate(lines, rooms.events, answer.events as usize);
+            answer
         }
     }
 }

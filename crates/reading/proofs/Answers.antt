@@ -32,7 +32,7 @@ module _ (text : List ℕ) where
 module _ (text : List ℕ) (ls : List Line) (reading : ℕ) (rooms : Rooms) where
   -- the questions: what holds of a refusal under 1 to 6, and of what comes of lines that pass 3 and 4, holds of the outcome
   pub asks-with : (block : ℕ → Bool) (P : Outcome → Type 0) → ((code at : ℕ) → 1 ≤ code → code ≤ 6 → P (refuses code at rooms))
-      → (Fed text ls → let s = read (sheet_with block text reading (label_room rooms.labels)) ls in P (judged s.refused s.fits s rooms))
+      → (Fed text ls → let s = read (sheet_with block text reading (label_room rooms.labels)) ls in P (judged ls s.refused s.fits s rooms))
       → P (outcome_with block text ls reading rooms)
   unfolding outcome_with
   asks-with block P early late =
@@ -54,12 +54,12 @@ module _ (text : List ℕ) (ls : List Line) (reading : ℕ) (rooms : Rooms) wher
   x = sheet text ls reading (label_room rooms.labels)
 
   pub asks : (P : Outcome → Type 0) → ((code at : ℕ) → 1 ≤ code → code ≤ 6 → P (refuses code at rooms))
-      → (Fed text ls → P (judged (read x ls).refused (read x ls).fits (read x ls) rooms)) → P (outcome text ls reading rooms)
+      → (Fed text ls → P (judged ls (read x ls).refused (read x ls).fits (read x ls) rooms)) → P (outcome text ls reading rooms)
   asks = asks-with (block_at (views text ls))
 
   -- 7 and 8 are refusals too; behind them the list is handed out
   judges : (P : Outcome → Type 0) → ((code at : ℕ) → 1 ≤ code → code ≤ 8 → P (refuses code at (cleared rooms)))
-      → (r : Option Place) (f : Bool) (s : State) → (r ≡ None → f ≡ true → P (handed_out (drain s.queue) s.labels rooms)) → P (judged r f s rooms)
+      → (r : Option Place) (f : Bool) (s : State) → (r ≡ None → f ≡ true → P (handed_out ls (drain s.queue) s.labels rooms)) → P (judged ls r f s rooms)
   unfolding judged
   judges P early (Some p) f s late = early 7 p.0 (omega arith) (omega arith)
   judges P early None false s late = early 8 0 (omega arith) (omega arith)
@@ -90,7 +90,7 @@ module _ (text : List ℕ) (ls : List Line) (reading : ℕ) (rooms : Rooms) wher
       Claim o = o.answer.code ≡ 0 → Accepted text ls reading rooms o
 
       go : (read x ls).refused ≡ None → (read x ls).fits ≡ true → Fed text ls → (b : Bool) → leb (length (drain (read x ls).queue)) (length rooms.events / event_numbers) ≡ b
-          → Claim (handed_out (drain (read x ls).queue) (read x ls).labels rooms)
+          → Claim (handed_out ls (drain (read x ls).queue) (read x ls).labels rooms)
       go r f fed true b e =
           record { whole = whole x ls fed r; count = rw (b, handed_out); handed = rw (b, handed_out) }
       go r f fed false b e = absurd (omega (arith, rw (b, handed_out) at e))
@@ -107,7 +107,7 @@ module _ (text : List ℕ) (ls : List Line) (reading : ℕ) (rooms : Rooms) wher
       Claim o = o.answer.code ≡ 0 → AcceptedHomes text ls reading rooms o
 
       go : (read x ls).refused ≡ None → (read x ls).fits ≡ true → Fed text ls → (b : Bool) → leb (length (drain (read x ls).queue)) (length rooms.events / event_numbers) ≡ b
-          → Claim (handed_out (drain (read x ls).queue) (read x ls).labels rooms)
+          → Claim (handed_out ls (drain (read x ls).queue) (read x ls).labels rooms)
       go r f fed true b e = record { homes = rw (b, handed_out) (homes x ls fed r f) }
       go r f fed false b e = absurd (omega (arith, rw (b, handed_out) at e))
 

@@ -22,6 +22,7 @@ pub mod Braces
 pub mod Drains
 pub mod Feeding
 pub mod Hiding
+pub mod Locating
 pub mod Homing
 pub mod Dropping
 pub mod Alike

@@ -136,10 +136,10 @@ module _ (block : ℕ → Bool) (text : List ℕ) (ls : List Line) (reading : �
   AsBefore a b = (b.answer.code ≡ 7 → ⊥) → a ≡ b
 
   judged_as : (s t : State) → (t.refused ≡ None → s ≡ t) → (r : Option Place) → t.refused ≡ r
-      → AsBefore (judged s.refused s.fits s rooms) (judged r t.fits t rooms)
+      → AsBefore (judged ls s.refused s.fits s rooms) (judged ls r t.fits t rooms)
   unfolding judged
   judged_as s t same (Some p) e = λ n. absurd (n refl)
-  judged_as s t same None e = λ n. ap (λ (z : State). judged z.refused z.fits z rooms) (same e) ∙ ap (λ (r : Option Place). judged r t.fits t rooms) e
+  judged_as s t same None e = λ n. ap (λ (z : State). judged ls z.refused z.fits z rooms) (same e) ∙ ap (λ (r : Option Place). judged ls r t.fits t rooms) e
 
   -- a sheet that was read, or refused under another number, when every brace refused
   pub as_before : ((outcome_with everywhere text ls reading rooms).answer.code ≡ 7 → ⊥)
@@ -164,7 +164,7 @@ module _ (block : ℕ → Bool) (text : List ℕ) (ls : List Line) (reading : �
   abbrev AtBlock : Outcome → Type 0
   AtBlock o = o.answer.code ≡ 7 → block o.answer.place ≡ true
 
-  judged-at : (r : Option Place) (f : Bool) (s : State) → ((p : Place) → r ≡ Some p → block p.0 ≡ true) → AtBlock (judged r f s rooms)
+  judged-at : (r : Option Place) (f : Bool) (s : State) → ((p : Place) → r ≡ Some p → block p.0 ≡ true) → AtBlock (judged ls r f s rooms)
   unfolding judged handed_out
   judged-at (Some p) f s h = λ e. h p refl
   judged-at None false s h = λ e. absurd (omega (arith, e))

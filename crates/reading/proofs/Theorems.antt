@@ -21,9 +21,11 @@ use Rattle.reading.specs.Events.{exit_of}
 use Rattle.reading.specs.Verbatim.{nothing, ended_at}
 use Rattle.reading.specs.Reading.{on_token, step, steps, begun, lines, views, start, end_of, read, moment}
 use Rattle.reading.specs.Dropped.{dropped}
+use Rattle.reading.specs.Draining.{drained, flushed}
 use Rattle.reading.specs.Questions.{total, first_outside, first_early, Fed}
 use Rattle.reading.specs.Homes.{AllHomed}
-use Rattle.reading.specs.Walked.{Walked, Ordered, Of, Covered, Shown, Whole, Matches, under, events}
+use Rattle.reading.specs.Located.{located}
+use Rattle.reading.specs.Walked.{Walked, Ordered, Of, Covered, Shown, Whole, Matches, Lined, under, events}
 use Rattle.reading.proofs.Removed.{removed}
 use Rattle.reading.proofs.Dropping.{dropped-removed}
 use Rattle.reading.proofs.Matching.{Still, parts_all}
@@ -36,6 +38,7 @@ use Rattle.reading.proofs.Feeding.{Rising, Apart, Stood, lines-stood, lines-blan
 use Rattle.reading.proofs.Feeding.{steps_all}
 use Rattle.reading.proofs.Hiding.{shown-within, left-hidden, fed-shown}
 use Rattle.reading.proofs.Homing.{events-homed}
+use Rattle.reading.proofs.Locating.{ordered_lined}
 
 lower : (a b : ℕ) → ltb (suc a) (suc b) ≡ false → ltb a b ≡ false
 lower a b e = le-ltb a b (omega (arith, ltb-false (suc a) (suc b) e))
@@ -198,8 +201,17 @@ module _ (x : Sheet) where
       pub room : length (events x ls) ≤ total ls + 1
       room = omega (arith, drain-few (read x ls).queue, out.few)
 
+      -- the lines of the events never fall; without lines there are no events
+      pub lined : Lined 0 (length ls) (located ls (events x ls))
+      unfolding Lined located lines ended_at drained flushed
+      lined = by ls ordered
+        where
+          by : (ls : List Line) → Ordered 0 (events x ls) (end_of ls 0) → Lined 0 (length ls) (located ls (events x ls))
+          by [] o = tt
+          by (l ∷ ls) o = ordered_lined (l ∷ ls) (omega arith) 0 0 (events x (l ∷ ls)) (end_of (l ∷ ls) 0) (omega arith) o
+
       pub whole : Whole x ls
-      whole = record { walked = walked; ordered = ordered; covered = covered; shown = shown; blanks = blanks; room = room }
+      whole = record { walked = walked; ordered = ordered; covered = covered; shown = shown; blanks = blanks; room = room; lined = lined }
 
     -- the parser's own rooms, at any moment, whether or not a brace is met: behind i lines
     pub behind : (i : ℕ) → Stood Any x.text x (end_of (take i ls) 0) (0 + total (take i ls)) (lines x (views x.text (take i ls)) start)

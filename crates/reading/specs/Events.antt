@@ -14,7 +14,7 @@ link n = record { 0 = n }
 
 -- how many 32-bit numbers a record has: an event that is handed out, one of the queue, an opener
 abbrev pub event_numbers : ℕ
-event_numbers = 7
+event_numbers = 8
 
 abbrev pub queue_numbers : ℕ
 queue_numbers = 8

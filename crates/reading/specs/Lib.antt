@@ -12,6 +12,7 @@ pub mod Blocks
 pub mod Reading
 pub mod Dropped
 pub mod Draining
+pub mod Located
 pub mod Questions
 pub mod Refusals
 pub mod Homes

@@ -3,12 +3,14 @@ use Rattle.std.specs.Prelude.{ℕ, suc, ◌+◌, ◌-◌, ◌*◌, ◌/◌, ◌�
 use Rattle.reading.specs.declared.Place.{Place}
 use Rattle.reading.specs.declared.Line.{Line}
 use Rattle.reading.specs.declared.Event.{Event}
+use Rattle.reading.specs.declared.Located.{Located}
 use Rattle.reading.specs.declared.Answer.{Answer}
 use Rattle.reading.specs.Events.{event_numbers, queue_numbers, opener_numbers, largest, label_limit}
 use Rattle.reading.specs.Machine.{State}
 use Rattle.reading.specs.Blocks.{block_at}
 use Rattle.reading.specs.Reading.{views, sheet_with, read}
 use Rattle.reading.specs.Draining.{drain}
+use Rattle.reading.specs.Located.{located}
 
 -- N, the sum of the line lengths
 unfoldable pub total : List Line → ℕ
@@ -70,25 +72,28 @@ abbrev pub cleared : Rooms → Rooms
 cleared rooms =
     record { events = zeros rooms.events; queue = zeros rooms.queue; openers = zeros rooms.openers; labels = zeros rooms.labels }
 
--- the numbers of an event
+-- the numbers of an event: seven
 abbrev pub record_of : Event → List ℕ
 record_of e =
     e.kind ∷ e.start.0 ∷ e.end.0 ∷ e.home ∷ e.home_start.0 ∷ e.home_end.0 ∷ e.link.0 ∷ []
 
--- and of each event
-unfoldable pub numbers : List Event → List ℕ
-numbers [] = []
-numbers (e ∷ es) = record_of e ++ numbers es
+-- and of each event with its line, which comes last
+abbrev pub numbers_of : Located → List ℕ
+numbers_of r = record_of r.event ++ r.line ∷ []
 
--- 9: does the event room hold all the events? The last question
-unfoldable pub handed_out : List Event → List ℕ → Rooms → Outcome
-handed_out es labels rooms =
+unfoldable pub numbers : List Located → List ℕ
+numbers [] = []
+numbers (r ∷ rs) = numbers_of r ++ numbers rs
+
+-- 9: does the event room hold all the events? The last question. Each is handed out with its line
+unfoldable pub handed_out : List Line → List Event → List ℕ → Rooms → Outcome
+handed_out ls es labels rooms =
     elim (leb (length es) (length rooms.events / event_numbers)) [
       | false ↦ refuses 9 0 (cleared rooms)
       | true ↦ record {
         answer = acceptance (length es) (length labels);
         rooms = record {
-          events = filled (numbers es) rooms.events;
+          events = filled (numbers (located ls es)) rooms.events;
           queue = zeros rooms.queue;
           openers = zeros rooms.openers;
           labels = filled labels rooms.labels;
@@ -97,10 +102,10 @@ handed_out es labels rooms =
     ]
 
 -- 7: does no attribute block stand outside verbatim? 8: does the label room hold all the labels built?
-unfoldable pub judged : Option Place → Bool → State → Rooms → Outcome
-judged (Some p) fits s rooms = refuses 7 p.0 (cleared rooms)
-judged None false s rooms = refuses 8 0 (cleared rooms)
-judged None true s rooms = handed_out (drain s.queue) s.labels rooms
+unfoldable pub judged : List Line → Option Place → Bool → State → Rooms → Outcome
+judged ls (Some p) fits s rooms = refuses 7 p.0 (cleared rooms)
+judged ls None false s rooms = refuses 8 0 (cleared rooms)
+judged ls None true s rooms = handed_out ls (drain s.queue) s.labels rooms
 
 -- the whole answer, and the rooms at its end, of a sheet with blocks at some places
 unfoldable pub outcome_with : (ℕ → Bool) → List ℕ → List Line → ℕ → Rooms → Outcome
@@ -130,7 +135,7 @@ outcome_with block text ls reading rooms =
                                     | false ↦ refuses 6 0 rooms
                                     | true ↦
                                         let s = read (sheet_with block text reading (label_room rooms.labels)) ls in
-                                        judged s.refused s.fits s rooms
+                                        judged ls s.refused s.fits s rooms
                                   ]
                             ]
                       ]

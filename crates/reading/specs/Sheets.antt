@@ -1,9 +1,10 @@
 -- A sheet with the answer that it is to get: the rows of `Worked`, and of the stored answers of the Rust.
-use Rattle.std.specs.Prelude.{ℕ, ◌+◌, ◌*◌, List, [], ◌∷◌, length, replicate}
+use Rattle.std.specs.Prelude.{ℕ, ◌+◌, ◌*◌, List, [], ◌∷◌, map, length, replicate}
 use Prim.Native.String.{String}
 use Rattle.classes.specs.Classes.{bytes}
 use Rattle.reading.specs.declared.Line.{Line}
 use Rattle.reading.specs.declared.Event.{Event}
+use Rattle.reading.specs.declared.Located.{Located}
 use Rattle.reading.specs.declared.Home.{Home}
 use Rattle.reading.specs.Events.{place, link, event_numbers, queue_numbers, opener_numbers}
 use Rattle.reading.specs.Reading.{sheet}
@@ -17,7 +18,7 @@ pub record Row : Type 0 where
   pub reading : ℕ
   pub code : ℕ
   pub at : ℕ
-  pub events : List Event
+  pub events : List Located
   pub labels : String
 
 -- rooms as lent: of exact size, with 16 bytes for labels, and not clear
@@ -57,14 +58,18 @@ span a b = record { start = a; end = b }
 abbrev pub at_home : ℕ → ℕ → ℕ → ℕ → Home
 at_home home a b n = record { home = home; start = place a; end = place b; link = link n }
 
+-- events on one line
+abbrev pub on : ℕ → List Event → List Located
+on line es = map (λ (e : Event). record { event = e; line = line }) es
+
 -- a sheet that is read
-abbrev pub given : String → List Line → ℕ → List Event → String → Row
+abbrev pub given : String → List Line → ℕ → List Located → String → Row
 given text lines reading events labels =
     record { text = text; lines = lines; reading = reading; code = 0; at = 0; events = events; labels = labels }
 
 -- a text that is one line, in reading 0
 abbrev pub one_line : String → List Event → String → Row
-one_line text events labels = given text (span 0 (length (bytes text)) ∷ []) 0 events labels
+one_line text events labels = given text (span 0 (length (bytes text)) ∷ []) 0 (on 0 events) labels
 
 -- an attribute block
 abbrev pub refused_at : String → List Line → ℕ → ℕ → Row

@@ -3,12 +3,14 @@ use Rattle.std.specs.Prelude.{ℕ, ◌+◌, ◌-◌, ◌≤◌, ◌<◌, ◌≡�
 use Rattle.classes.specs.Classes.{bit, blank}
 use Rattle.reading.specs.declared.Line.{Line}
 use Rattle.reading.specs.declared.Event.{Event}
+use Rattle.reading.specs.declared.Located.{Located}
 use Rattle.reading.specs.declared.Home.{Home}
 use Rattle.reading.specs.Events.{home_of, enter_from, exit_from, exit, reference_link, inline_image}
 use Rattle.reading.specs.Machine.{Sheet}
 use Rattle.reading.specs.Reading.{end_of, sheet, read}
 use Rattle.reading.specs.Dropped.{dropped}
 use Rattle.reading.specs.Draining.{drain}
+use Rattle.reading.specs.Located.{located}
 use Rattle.reading.specs.Questions.{Rooms, Outcome, total, numbers, filled, label_room}
 use Rattle.reading.specs.Homes.{AllHomed}
 
@@ -77,6 +79,11 @@ unfoldable pub Shown : ℕ → List Event → Type 0
 Shown i [] = ⊥
 Shown i (e ∷ es) = ((link_exit e.kind ≡ false) × (e.start.0 ≤ i) × (i < e.end.0)) ⊎ Shown i es
 
+-- the lines of some events never fall from a on, and each is the index of one of n lines
+unfoldable pub Lined : ℕ → ℕ → List Located → Type 0
+Lined a n [] = Unit {0}
+Lined a n (r ∷ rs) = (a ≤ r.line) × (r.line < n) × Lined r.line n rs
+
 -- the one list that the rules give
 abbrev pub events : Sheet → List Line → List Event
 events x ls = drain (read x ls).queue
@@ -89,12 +96,13 @@ pub record Whole (x : Sheet) (ls : List Line) : Type 0 where
   pub shown : (i : ℕ) → Shown i (events x ls) → Of ls i × (Of (dropped x ls) i → ⊥)
   pub blanks : (i : ℕ) → Of (dropped x ls) i → blank (get_or x.text i 0) ≡ true
   pub room : length (events x ls) ≤ total ls + 1
+  pub lined : Lined 0 (length ls) (located ls (events x ls))
 
 -- an accepted sheet: the events handed out are that list, and demand 3 holds of it
 pub record Accepted (text : List ℕ) (ls : List Line) (reading : ℕ) (rooms : Rooms) (o : Outcome) : Type 0 where
   pub whole : Whole (sheet text ls reading (label_room rooms.labels)) ls
   pub count : o.answer.events ≡ length (events (sheet text ls reading (label_room rooms.labels)) ls)
-  pub handed : o.rooms.events ≡ filled (numbers (events (sheet text ls reading (label_room rooms.labels)) ls)) rooms.events
+  pub handed : o.rooms.events ≡ filled (numbers (located ls (events (sheet text ls reading (label_room rooms.labels)) ls))) rooms.events
 
 -- and of an accepted sheet each event has the home and the link number that its kind has
 pub record AcceptedHomes (text : List ℕ) (ls : List Line) (reading : ℕ) (rooms : Rooms) (o : Outcome) : Type 0 where

@@ -1,8 +1,8 @@
 -- Sheets worked through (document 01), as tables. `Rows` proves each by one computed statement.
-use Rattle.std.specs.Prelude.{List, [], ◌∷◌}
+use Rattle.std.specs.Prelude.{List, [], ◌∷◌, ◌++◌}
 use Rattle.reading.specs.declared.Line.{Line}
 use Rattle.reading.specs.Events.{event, homed, in_text}
-use Rattle.reading.specs.Sheets.{Row, span, at_home, given, one_line, refused_at}
+use Rattle.reading.specs.Sheets.{Row, span, at_home, on, given, one_line, refused_at}
 
 -- marked P
 unfoldable pub worked : List Row
@@ -32,11 +32,11 @@ others =
     one_line "...." (event 6 0 3 ∷ event 1 3 4 ∷ []) ""
     ∷ one_line "[a](b" (event 1 0 5 ∷ []) ""
     ∷ one_line "`{`" (event 40 0 1 ∷ event 1 1 2 ∷ event 72 2 3 ∷ []) ""
-    ∷ given "`a\nb\\`" (span 0 3 ∷ span 3 6 ∷ []) 0 (event 40 0 1 ∷ event 1 1 6 ∷ event 72 6 6 ∷ []) ""
-    ∷ given "`a\nb\\`" (span 0 3 ∷ span 3 6 ∷ []) 1 (event 40 0 1 ∷ event 1 1 5 ∷ event 72 5 6 ∷ []) ""
-    ∷ given "[a](b\n> c)" (span 0 6 ∷ span 8 10 ∷ []) 0 (homed 46 (at_home 2 0 2 0) 0 1 ∷ event 1 1 2 ∷ homed 78 (at_home 2 0 2 0) 2 10 ∷ []) "bc"
+    ∷ given "`a\nb\\`" (span 0 3 ∷ span 3 6 ∷ []) 0 (on 0 (event 40 0 1 ∷ event 1 1 6 ∷ []) ++ on 1 (event 72 6 6 ∷ [])) ""
+    ∷ given "`a\nb\\`" (span 0 3 ∷ span 3 6 ∷ []) 1 (on 0 (event 40 0 1 ∷ event 1 1 5 ∷ []) ++ on 1 (event 72 5 6 ∷ [])) ""
+    ∷ given "[a](b\n> c)" (span 0 6 ∷ span 8 10 ∷ []) 0 (on 0 (homed 46 (at_home 2 0 2 0) 0 1 ∷ event 1 1 2 ∷ homed 78 (at_home 2 0 2 0) 2 10 ∷ [])) "bc"
     ∷ given "[a](x[b](c\n> d)e)" (span 0 11 ∷ span 13 17 ∷ []) 0
-    (homed 46 (at_home 2 2 13 1) 0 1 ∷ event 1 1 2 ∷ homed 78 (at_home 2 2 13 1) 2 17 ∷ []) "cdx[b](c> d)e"
+    (on 0 (homed 46 (at_home 2 2 13 1) 0 1 ∷ event 1 1 2 ∷ homed 78 (at_home 2 2 13 1) 2 17 ∷ [])) "cdx[b](c> d)e"
     ∷ one_line "```````````````````````````````````````````````````````````````````````````````````````````````````````````````````````````````````````````````````````````````````````````````````````````````````````````````````````````````````````````````````````````````" (event 40 0 255 ∷ event 72 255 255 ∷ []) ""
     ∷ one_line "````````````````````````````````````````````````````````````````````````````````````````````````````````````````````````````````````````````````````````````````````````````````````````````````````````````````````````````````````````````````````````````````" (event 1 0 256 ∷ []) ""
     ∷ []
@@ -50,9 +50,9 @@ braces =
     ∷ refused_at "{.a}" (span 0 4 ∷ []) 0 0
     ∷ refused_at "{.a}" (span 0 4 ∷ []) 1 0
     ∷ one_line "{door" (event 1 0 5 ∷ []) ""
-    ∷ given "{door" (span 0 5 ∷ []) 1 (event 1 0 5 ∷ []) ""
+    ∷ given "{door" (span 0 5 ∷ []) 1 (on 0 (event 1 0 5 ∷ [])) ""
     ∷ refused_at "{a=\"\n$%\"}" (span 0 5 ∷ span 7 9 ∷ []) 0 0
-    ∷ given "{a=\"\n\"}b" (span 0 5 ∷ span 7 8 ∷ []) 0 (event 1 0 3 ∷ event 12 3 4 ∷ event 2 4 5 ∷ event 1 7 8 ∷ []) ""
+    ∷ given "{a=\"\n\"}b" (span 0 5 ∷ span 7 8 ∷ []) 0 (on 0 (event 1 0 3 ∷ event 12 3 4 ∷ event 2 4 5 ∷ []) ++ on 1 (event 1 7 8 ∷ [])) ""
     ∷ one_line "{%" (event 1 0 2 ∷ []) ""
     ∷ refused_at "{a=\"\\\"}\"}" (span 0 9 ∷ []) 0 0
     ∷ one_line "`{.a}`" (event 40 0 1 ∷ event 1 1 5 ∷ event 72 5 6 ∷ []) ""

@@ -12,7 +12,7 @@ pub mod refusal;
 pub use refusal::Refusal;
 
 // The numbers of a record: an event that is handed out, one of the queue, an opener.
-pub const EVENT_NUMBERS: usize = 7;
+pub const EVENT_NUMBERS: usize = 8;
 
 pub const QUEUE_NUMBERS: usize = 8;
 
@@ -92,6 +92,13 @@ impl Event {
         let end = (self.end.0 as usize).min(text.len());
         &text[(self.start.0 as usize).min(end)..end]
     }
+}
+
+// An event with its line: the index of a fed line.
+#[derive(Clone, Copy)]
+pub struct Located {
+    pub event: Event,
+    pub line: u32,
 }
 
 // The sorts of openers. `*`, `_`, `^`, `~` without a brace, and quotes with one or without, are

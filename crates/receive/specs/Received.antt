@@ -1,4 +1,4 @@
--- What `./unpack` writes (document 02, L4): the events of a packed list and the answer, or the answer, and why there are none.
+-- What `./unpack` writes (document 02, L4 and L5): the events of a packed list and the answer, or the answer, and why there are none.
 use Rattle.std.specs.Prelude.{ℕ, ◌*◌, List, ◌++◌, length, take, replicate, codes, decimal, nat_lt, Result, Ok, Err, if◌then◌else◌}
 use Rattle.reading.specs.Events.{event_numbers}
 use Rattle.packed.specs.declared.PackedAnswer.{PackedAnswer}
@@ -21,9 +21,9 @@ restored_text r = unpacked_text r.answer r.room
 abbrev pub list_within : List ℕ → List ℕ → Written
 list_within bytes room = restored_text (restored bytes room)
 
--- in one of 16,384 events
+-- in one of 13,107 events
 unfoldable pub list_text : List ℕ → Written
-list_text bytes = list_within bytes (replicate 114688 0)
+list_text bytes = list_within bytes (replicate 104856 0)
 
 -- of an input, of which at most 65,536 bytes are a list
 abbrev pub received : List ℕ → Written

@@ -16,7 +16,7 @@ use std::io::{Read, Write};
 // The program's input in bytes, and its room: so many events are the most that so many bytes hold.
 const BYTES: usize = 65536;
 
-const EVENT_ROOM: usize = BYTES / 4 * EVENT_NUMBERS;
+const EVENT_ROOM: usize = BYTES / 5 * EVENT_NUMBERS;
 
 // The answer, on a line.
 fn write_answer<W: Write>(to: &mut W, a: PackedAnswer) -> io::Result<()>

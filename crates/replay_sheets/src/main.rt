@@ -136,7 +136,7 @@ fn replay_call(
     starts: &[usize],
     ends: &[usize],
 ) -> bool {
-    let mut events = [OLD; 8407];
+    let mut events = [OLD; 9608];
     let mut queue = [OLD; 19208];
     let mut openers = [OLD; 4800];
     let mut labels = [OLD_BYTE; 1200];

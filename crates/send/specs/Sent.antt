@@ -26,9 +26,9 @@ call_text c = answer_text c.answer c.room
 abbrev pub packed_within : List ℕ → List ℕ → Written
 packed_within text out = call_text (sent (outcome text (text_lines text) 0 sheet_rooms) out)
 
--- in one of 27,032 bytes
+-- in one of 32,037 bytes
 unfoldable pub packed_text : List ℕ → Written
-packed_text text = packed_within text (replicate 27032 0)
+packed_text text = packed_within text (replicate 32037 0)
 
 -- of an input, of which at most 1,000 bytes are a sheet
 abbrev pub sent_text : List ℕ → Written

@@ -17,7 +17,7 @@ use std::io;
 use std::io::{Read, Write};
 
 // So many bytes hold any list that the event room holds.
-const LIST_ROOM: usize = 27 * (BYTES + 1) + 5;
+const LIST_ROOM: usize = 32 * (BYTES + 1) + 5;
 
 // The packed list of some lines, in reading 0. It is refused as the reader does, and for nothing
 // else. The calls answer numbers, for the C interface.
@@ -51,7 +51,7 @@ fn write_packed<W: Write, E: Write>(
     out: &mut [u8],
 ) -> io::Result<()>
     requires short { length text.now ≤ 1000 }
-    requires room { 27032 ≤ length out.old }
+    requires room { 32037 ≤ length out.old }
     ensures { OnOk result (Writes W.contents E.contents ends.old ends.new
         (packed_within text.now out.old)) }
 {

@@ -5,12 +5,13 @@ use native.Mathlib.Numerals.{add-one}
 use lib.Seq.{length-take-le}
 use Rattle.reading.specs.declared.Answer.{Answer}
 use Rattle.reading.specs.declared.Event.{Event}
+use Rattle.reading.specs.declared.Located.{Located}
 use Rattle.reading.specs.declared.Place.{Place}
 use Rattle.reading.specs.Events.{event_numbers}
 use Rattle.reading.specs.Questions.{Rooms, Outcome, numbers, zeros, cleared}
 use Rattle.outcome.specs.Outcomes.{kept}
-use Rattle.listing.specs.Listing.{event_at, listed}
-use Rattle.listing.proofs.Listed.{listed_next, listed-end, listed-numbers, numbers-listed, numbers-length}
+use Rattle.listing.specs.Listing.{event_at, listed, records}
+use Rattle.listing.proofs.Listed.{listed_next, listed-end, listed-records, events_of, records-numbers, numbers-records, numbers-length}
 use Rattle.markup.specs.Markup.{fragment}
 use Rattle.verdict.specs.declared.Refusal.{Refusal}
 use Rattle.verdict.specs.Fragments.{barred, first_barred, Fragmented, refusal, acceptance, judged, behind, fragmented_of}
@@ -39,21 +40,21 @@ pub handed : (n : ℕ) (room : List ℕ) → n * event_numbers ≤ length room
     → listed (length (take (n * event_numbers) room) / event_numbers) (take (n * event_numbers) room) ≡ listed n room
 handed n room h =
     ap (λ (k : ℕ). listed k front) count
-    ∙ ap (λ (l : List ℕ). listed n l) (sym (numbers-listed n room h) ∙ sym (append-nil (numbers es)))
-    ∙ ap (λ (k : ℕ). listed k (numbers es ++ [])) (sym many)
-    ∙ listed-numbers es []
+    ∙ listed-records n front
+    ∙ ap events_of (ap (records n) (sym (numbers-records n room h) ∙ sym (append-nil (numbers rs))) ∙ ap (λ (k : ℕ). records k (numbers rs ++ [])) (sym many) ∙ records-numbers rs [])
+    ∙ sym (listed-records n room)
   where
     front : List ℕ
     front = take (n * event_numbers) room
 
-    es : List Event
-    es = listed n room
+    rs : List Located
+    rs = records n room
 
     count : length front / event_numbers ≡ n
     count = omega (arith, length-take-le (n * event_numbers) room h)
 
-    many : length es ≡ n
-    many = omega (arith, length-take-le (n * event_numbers) room h, numbers-length es, ap length (numbers-listed n room h))
+    many : length rs ≡ n
+    many = omega (arith, length-take-le (n * event_numbers) room h, numbers-length rs, ap length (numbers-records n room h))
 
 -- 10 and 11, by what is shown
 judged-ok : (b : Option Place) (f out out' : List ℕ) (n : ℕ) (rooms : Rooms) (a : Answer) → length out' ≡ length out → n ≤ length out

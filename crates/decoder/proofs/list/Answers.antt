@@ -13,14 +13,14 @@ returns-in_err-n c =
 pub loop-i-init : goal.loop-i-init
 loop-i-init c = seen_first c.number.ensures refl _ _ _ c.in_ok-n.was
 
-pub returns-in_err-e : goal.returns-in_err-e
-returns-in_err-e c =
-    let p = err_from_is_err_and c.from_residual-in_err-e.result c.from_residual-in_err-e.ensures.1 in
-    rw (p.1, p.2) (seen-fault c.loop-i.invariant c.loop-i-test.true c.event.ensures _ c.in_err-e.was)
+pub returns-in_err-r : goal.returns-in_err-r
+returns-in_err-r c =
+    let p = err_from_is_err_and c.from_residual-in_err-r.result c.from_residual-in_err-r.ensures.1 in
+    rw (p.1, p.2) (seen-fault c.loop-i.invariant c.loop-i-test.true c.event.ensures _ c.in_err-r.was)
 
 pub loop-i-preserved : goal.loop-i-preserved
 loop-i-preserved c =
-    seen_more c.loop-i.invariant c.loop-i-test.true c.event.ensures _ _ c.in_ok-e.was
+    seen_more c.loop-i.invariant c.loop-i-test.true c.event.ensures _ _ c.in_ok-r.was
     (elim c.if-keep.branch [
       | then-keep w ↦ λ k. (w.room-is ∙ w.store.ensures, omega arith)
       | else-keep w ↦ λ k. absurd (omega arith)

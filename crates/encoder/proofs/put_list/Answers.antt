@@ -15,7 +15,7 @@ loop-i-init c =
     ]
 
 pub returns-then-not-sound-clause-answer : goal.returns-then-not-sound-clause-answer
-returns-then-not-sound-clause-answer c = puts-flaw c.args.events.now c.loop-i.invariant c.loop-i-test.true _ c.event_at-e.ensures _ _ (sym c.sound.ensures ∙ c.if-not-sound.true)
+returns-then-not-sound-clause-answer c = puts-flaw c.args.events.now c.loop-i.invariant c.loop-i-test.true _ c.record_at-r.ensures _ _ (sym c.sound.ensures ∙ c.if-not-sound.true)
 
 pub put_event-requires : goal.put_event-requires
 put_event-requires c = sound-forward c.loop-i.i _ _ (sym c.sound.ensures ∙ c.if-not-sound.false)
@@ -24,8 +24,8 @@ pub loop-i-preserved : goal.loop-i-preserved
 loop-i-preserved c =
     let is_sound = sym c.sound.ensures ∙ c.if-not-sound.false in
     elim c.if-fits.branch [
-      | then-fits w ↦ rw (w.out-is, w.fits-is, w.is_some-fits-then-fits.ensures) (puts-more c.args.events.now c.loop-i.invariant c.loop-i-test.true _ c.event_at-e.ensures is_sound _ _ w.if-fits.true w.put_event.ensures)
-      | else-fits w ↦ rw (w.out-is, w.fits-is, w.if-fits.false) (puts-less c.args.events.now c.loop-i.invariant c.loop-i-test.true _ c.event_at-e.ensures is_sound w.if-fits.false)
+      | then-fits w ↦ rw (w.out-is, w.fits-is, w.is_some-fits-then-fits.ensures) (puts-more c.args.events.now c.loop-i.invariant c.loop-i-test.true _ c.record_at-r.ensures is_sound _ _ w.if-fits.true w.put_event.ensures)
+      | else-fits w ↦ rw (w.out-is, w.fits-is, w.if-fits.false) (puts-less c.args.events.now c.loop-i.invariant c.loop-i-test.true _ c.record_at-r.ensures is_sound w.if-fits.false)
     ]
 
 pub returns-then-fits-2-clause-answer : goal.returns-then-fits-2-clause-answer

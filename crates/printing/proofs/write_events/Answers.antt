@@ -8,11 +8,11 @@ use Rattle.printing.proofs.write_events.Goals as goal
 
 pub loop-event-preserved : goal.loop-event-preserved
 loop-event-preserved g c =
-    let seven = c.loop-event.invariant.0 in
+    let wide = c.loop-event.invariant.0 in
     let step = c.in-Some.ensures.steps in (
-      step.0 ∙ seven,
+      step.0 ∙ wide,
       λ all left. c.loop-event.invariant.1 all
-          (subst (Appends _ all) (events_text-first _ _ (step.1.1 ∙ seven) ∙ ap events_text (sym step.1.0))
+          (subst (Appends _ all) (events_text-first _ _ (step.1.1 ∙ wide) ∙ ap events_text (sym step.1.0))
           (Appends-trans _ _ _ _ _ c.in_ok-write_line.ensures left)),
     )
 
