@@ -48,7 +48,7 @@ fn onward<L: Lines>(lines: L, from: Here, at: usize) -> Here
 }
 
 // Puts the lines of the first n events into their records, which say line 0. With one line there is
-// nothing to put in. Laid into the call, it costs the parser's loops registers.
+// nothing to put in. Laid into the call it makes the parser slower (docs/BENCHMARK.md, "Lines").
 #[inline(never)]
 pub fn locate<L: Lines>(lines: L, events: &mut [u32], n: usize)
     requires in_bounds { n * event_numbers ≤ length events.old }
