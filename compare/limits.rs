@@ -7,7 +7,7 @@ use crate::mivurakol::{self, code, Answer, Line, ENTER, EVENT_NUMBERS, EXIT, LAB
 use crate::model::Sizes;
 use crate::random::strings;
 use crate::sheet::Sheet;
-use crate::worked::{BRACES, WORKED};
+use crate::worked::{BEHIND_RUNS, BRACES, WORKED};
 use std::time::Instant;
 
 /// One sheet in one reading with some rooms, to be asked about first.
@@ -80,7 +80,7 @@ fn rooms(checker: &mut Checker) -> bool {
         (b"*<a>&* $`b`\\\n\"c\"", &[(0, 13), (13, 16)]),
         (b"`<b>`{=html}\xff<", &[(0, 14)]),
     ];
-    let mut sheets: Vec<Sheet> = WORKED.iter().chain(BRACES).map(|w| w.sheet()).filter(|s| s.text.len() < 20).collect();
+    let mut sheets: Vec<Sheet> = WORKED.iter().chain(BRACES).chain(BEHIND_RUNS).map(|w| w.sheet()).filter(|s| s.text.len() < 20).collect();
     sheets.extend(others.iter().map(|(text, lines)| Sheet::new(text, lines)));
     let mut calls = 0;
     for sheet in &sheets {

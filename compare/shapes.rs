@@ -249,6 +249,23 @@ fn backticks(r: &mut Random, out: &mut Vec<u8>) {
     out.extend(between[r.below(between.len())].as_bytes());
 }
 
+/// What stands behind closing runs: backslashes, and what they may escape.
+const BEHIND: &[&str] = &[
+    "`", "`", "`a`", "``", "`` a ``", "\\", "\\", "\\*", "*", "*b*", "\\{", "{", "}", "{.a}", "\\`", "{=h}", "\\{=h}", "\\\\", "\\ ", "\\\n", " ", "\n", "a", "$",
+    "$`", "[", "](b)", "\\]", "_",
+];
+
+/// Runs of backticks and backslashes.
+fn behind_runs(r: &mut Random, out: &mut Vec<u8>) {
+    out.clear();
+    let few: Vec<&str> = (0..2 + r.below(6)).map(|_| BEHIND[r.below(BEHIND.len())]).collect();
+    let any = r.below(3) == 0;
+    for _ in 0..1 + r.below(16) {
+        let piece = if any { BEHIND[r.below(BEHIND.len())] } else { few[r.below(few.len())] };
+        out.extend(piece.as_bytes());
+    }
+}
+
 /// Lines that end behind dollars, and begin with backticks: touching, or with a byte between them.
 fn dollars(r: &mut Random, sheet: &mut Sheet) {
     let Sheet { text, starts, ends } = sheet;
@@ -486,6 +503,10 @@ pub fn any(r: &mut Random, sheet: &mut Sheet) -> bool {
         57..=64 => open_blocks(r, sheet),
         65..=88 => {
             braces(r, &mut sheet.text);
+            cut(r, sheet);
+        }
+        89..=104 => {
+            behind_runs(r, &mut sheet.text);
             cut(r, sheet);
         }
         _ => {

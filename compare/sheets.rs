@@ -7,7 +7,7 @@ use crate::model::Sizes;
 use crate::random::{strings, Random};
 use crate::shapes::{any, names, shapes, SHAPES};
 use crate::sheet::Sheet;
-use crate::worked::{Worked, BRACES, WORKED};
+use crate::worked::{Worked, BEHIND_RUNS, BRACES, WORKED};
 use crate::written::WRITTEN;
 use crate::{limits, lookup, model};
 use std::time::Instant;
@@ -70,10 +70,12 @@ fn answered(checker: &mut Checker, sheets: &[Worked], document: &str) -> bool {
 
 /// Document 01's own sheets, and those around braces by document 02.
 fn worked(checker: &mut Checker) -> bool {
-    if !(answered(checker, WORKED, "document 01") && answered(checker, BRACES, "document 02")) {
+    let tables = [(WORKED, "document 01"), (BRACES, "document 02"), (BEHIND_RUNS, "document 02")];
+    if !tables.iter().all(|(some, by)| answered(checker, some, by)) {
         return false;
     }
-    println!("sheets: {} worked through in document 01, {} around braces by document 02", WORKED.len(), BRACES.len());
+    let [in_01, braces, behind] = [WORKED, BRACES, BEHIND_RUNS].map(<[Worked]>::len);
+    println!("sheets: {in_01} worked through in document 01, {braces} around braces and {behind} behind closing runs by document 02");
     true
 }
 

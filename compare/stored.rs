@@ -12,7 +12,7 @@ use crate::random::Random;
 use crate::rows::one_in;
 use crate::shapes::any;
 use crate::sheet::Sheet;
-use crate::worked::{BRACES, WORKED};
+use crate::worked::{BEHIND_RUNS, BRACES, WORKED};
 
 /// What the program that replays them has room for.
 const TEXT: usize = 1200;
@@ -67,7 +67,7 @@ fn case(sheet: &Sheet, reading: u32, lending: &Lending, expect: &Expect) -> bool
 
 /// The sheets of document 01 and those around braces, each with enough room, and the largest that there is room for.
 fn named(expect: &mut Expect) {
-    for w in WORKED.iter().chain(BRACES) {
+    for w in WORKED.iter().chain(BRACES).chain(BEHIND_RUNS) {
         let sheet = w.sheet();
         expect.ask(&sheet, w.reading);
         let answer = expect.answer(&sheet, w.reading, &expect.need.sizes(&SURE));

@@ -1,8 +1,8 @@
-//! The sheets that document 01 works through, and some around braces by document 02.
+//! The sheets that document 01 works through, and some around braces and behind closing runs by document 02.
 
 use crate::events::{event, homed, in_labels, in_text, on};
-use crate::mivurakol::container::{INLINE_LINK, REFERENCE_LINK, STRONG, VERBATIM};
-use crate::mivurakol::kind::{ELLIPSIS, EM_DASH, EN_DASH, FOOTNOTE_REFERENCE, LEFT_DOUBLE_QUOTE, RIGHT_DOUBLE_QUOTE, SOFTBREAK, STR, SYMBOL};
+use crate::mivurakol::container::{INLINE_LINK, RAW_FORMAT, REFERENCE_LINK, STRONG, VERBATIM};
+use crate::mivurakol::kind::{ELLIPSIS, EM_DASH, EN_DASH, ESCAPE, FOOTNOTE_REFERENCE, LEFT_DOUBLE_QUOTE, RIGHT_DOUBLE_QUOTE, SOFTBREAK, STR, SYMBOL};
 use crate::mivurakol::{code, Answer, Event, ENTER, EXIT, LONGEST_RUN};
 use crate::sheet::Sheet;
 
@@ -133,4 +133,37 @@ pub const BRACES: &[Worked] = &[
     read(b"`a\nb\\`{}", &[(0, 3), (3, 8)], &[event(ENTER + VERBATIM, 0, 1), event(STR, 1, 8), on(1, event(EXIT + VERBATIM, 8, 8))]),
     Worked { reading: 1, ..refused(b"`a\nb\\`{}", &[(0, 3), (3, 8)], 6) },
     read(b"\"a{b\"", &[(0, 5)], &[event(LEFT_DOUBLE_QUOTE, 0, 1), event(STR, 1, 4), event(RIGHT_DOUBLE_QUOTE, 4, 5)]),
+];
+
+/// Verbatim `a` at 0..3.
+const IN_RUNS: [Event; 3] = [event(ENTER + VERBATIM, 0, 1), event(STR, 1, 2), event(EXIT + VERBATIM, 2, 3)];
+
+/// A backslash straight after a closing run escapes in reading 1 (document 02, L6).
+pub const BEHIND_RUNS: &[Worked] = &[
+    read(
+        b"`a`\\*b*",
+        &[(0, 7)],
+        &[IN_RUNS[0], IN_RUNS[1], IN_RUNS[2], event(ESCAPE, 3, 4), event(ENTER + STRONG, 4, 5), event(STR, 5, 6), event(EXIT + STRONG, 6, 7)],
+    ),
+    Worked { reading: 1, ..read(b"`a`\\*b*", &[(0, 7)], &[IN_RUNS[0], IN_RUNS[1], IN_RUNS[2], event(ESCAPE, 3, 4), event(STR, 4, 7)]) },
+    // A brace there, escaped or not.
+    refused(b"`a`\\{.b}", &[(0, 8)], 4),
+    Worked { reading: 1, ..read(b"`a`\\{.b}", &[(0, 8)], &[IN_RUNS[0], IN_RUNS[1], IN_RUNS[2], event(ESCAPE, 3, 4), event(STR, 4, 8)]) },
+    Worked { reading: 1, ..refused(b"`a`{.b}", &[(0, 7)], 3) },
+    // A raw format stands directly behind the run, or it is none.
+    Worked {
+        reading: 1,
+        ..read(
+            b"`a`{=h}",
+            &[(0, 7)],
+            &[homed(ENTER + RAW_FORMAT, in_text(5, 6), 0, 1), event(STR, 1, 2), homed(EXIT + RAW_FORMAT, in_text(5, 6), 2, 7)],
+        )
+    },
+    Worked { reading: 1, ..read(b"`a`\\{=h}", &[(0, 8)], &[IN_RUNS[0], IN_RUNS[1], IN_RUNS[2], event(ESCAPE, 3, 4), event(STR, 4, 8)]) },
+    // Behind a run that closes on a later line it escapes in both.
+    read(
+        b"`a\n`\\*b*",
+        &[(0, 3), (3, 8)],
+        &[event(ENTER + VERBATIM, 0, 1), event(STR, 1, 3), on(1, event(EXIT + VERBATIM, 3, 4)), on(1, event(ESCAPE, 4, 5)), on(1, event(STR, 5, 8))],
+    ),
 ];

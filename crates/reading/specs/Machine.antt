@@ -36,11 +36,12 @@ pub record Rules : Type 0 where
   pub later : Bool
   pub after : Bool → Bool
 
--- Reading 0 is as the Rust: only on the opener's own line is a backslash in verbatim an ordinary byte. In reading 1 it is so on every
--- line. Behind a closing run on that line a backslash escapes nothing either, in both
+-- Reading 0 is as the Rust: only on the opener's own line is a backslash in verbatim an ordinary byte, and there the token behind the closing run is read
+-- as in verbatim too, so that a backslash escapes nothing. In reading 1 it is an ordinary byte on every line, and behind every closing run it escapes
+-- (document 02, L6)
 abbrev pub rules_of : ℕ → Rules
 rules_of zero = record { later = false; after = λ here. here }
-rules_of (suc n) = record { later = true; after = λ here. here }
+rules_of (suc n) = record { later = true; after = λ here. false }
 
 -- what is the same for the whole sheet: the rules; for labels, the text and the bytes that the label room holds; and at which places an attribute
 -- block stands

@@ -41,6 +41,21 @@ others =
     ∷ one_line "````````````````````````````````````````````````````````````````````````````````````````````````````````````````````````````````````````````````````````````````````````````````````````````````````````````````````````````````````````````````````````````````" (event 1 0 256 ∷ []) ""
     ∷ []
 
+-- a backslash straight after a closing run (document 02, L6): before a star, and before braces, that of a block among them; and a raw format, which stands
+-- directly behind the run
+unfoldable pub behind_runs : List Row
+behind_runs =
+    given "`a`\\*b*" (span 0 7 ∷ []) 0 (on 0 (event 40 0 1 ∷ event 1 1 2 ∷ event 72 2 3 ∷ event 4 3 4 ∷ event 38 4 5 ∷ event 1 5 6 ∷ event 70 6 7 ∷ [])) ""
+    ∷ given "`a`\\*b*" (span 0 7 ∷ []) 1 (on 0 (event 40 0 1 ∷ event 1 1 2 ∷ event 72 2 3 ∷ event 4 3 4 ∷ event 1 4 7 ∷ [])) ""
+    ∷ refused_at "`a`\\{.b}" (span 0 8 ∷ []) 0 4
+    ∷ given "`a`\\{.b}" (span 0 8 ∷ []) 1 (on 0 (event 40 0 1 ∷ event 1 1 2 ∷ event 72 2 3 ∷ event 4 3 4 ∷ event 1 4 8 ∷ [])) ""
+    ∷ refused_at "`a`{.b}" (span 0 7 ∷ []) 1 3
+    ∷ given "`a`\\{=h=}" (span 0 9 ∷ []) 0 (on 0 (event 40 0 1 ∷ event 1 1 2 ∷ event 72 2 3 ∷ event 4 3 4 ∷ event 39 4 6 ∷ event 1 6 7 ∷ event 71 7 9 ∷ [])) ""
+    ∷ given "`a`\\{=h=}" (span 0 9 ∷ []) 1 (on 0 (event 40 0 1 ∷ event 1 1 2 ∷ event 72 2 3 ∷ event 4 3 4 ∷ event 1 4 9 ∷ [])) ""
+    ∷ given "`a`{=h}" (span 0 7 ∷ []) 1 (on 0 (homed 41 (in_text 5 6) 0 1 ∷ event 1 1 2 ∷ homed 73 (in_text 5 6) 2 7 ∷ [])) ""
+    ∷ given "`a\n`\\*b*" (span 0 3 ∷ span 3 8 ∷ []) 0 (on 0 (event 40 0 1 ∷ event 1 1 3 ∷ []) ++ on 1 (event 72 3 4 ∷ event 4 4 5 ∷ event 1 5 8 ∷ [])) ""
+    ∷ []
+
 -- braces (document 02, L2): lone ones are Str; where a block stands the sheet is refused. Over two lines what lies between them is not fed: in the first of
 -- two such sheets it would not let the block end, in the second it would end it
 unfoldable pub braces : List Row

@@ -49,12 +49,12 @@ fn later(reading: u32) -> bool
     reading != 0
 }
 
-// How the token behind a closing run is read, by whether the line is the opener's own: a rule of
-// the reading, which is the same in both.
+// Whether the token behind a closing run is read as in verbatim, by whether the line is the
+// opener's own.
 fn after(reading: u32, own: bool) -> bool
     ensures { result ≡ (rules_of reading).after own }
 {
-    own
+    reading == 0 && own
 }
 
 // A cursor in verbatim, or out of it.
