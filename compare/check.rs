@@ -6,7 +6,7 @@ use crate::expect::Expect;
 use crate::laws::Laws;
 use crate::lending::{Lending, Size, Sort, OUTPUTS, SURE};
 use crate::lists::{damage, DAMAGES};
-use crate::mivurakol::container::{AUTOLINK, DISPLAY_MATH, INLINE_IMAGE, INLINE_MATH, REFERENCE_LINK, SUBSCRIPT};
+use crate::mivurakol::container::{AUTOLINK, DISPLAY_MATH, INLINE_IMAGE, INLINE_MATH, REFERENCE_LINK, SUBSCRIPT, VERBATIM};
 use crate::mivurakol::field::{END, KIND, LINE, START};
 use crate::mivurakol::{self, code, home, Answer, Event, FragmentAnswer, Line, EXIT};
 use crate::model::Sizes;
@@ -38,6 +38,8 @@ pub struct Counts {
     /// With an event on a line behind the first; and with a line on which none starts before one.
     pub later: u64,
     pub passed: u64,
+    /// With a backslash straight behind a closing run.
+    pub escaped: u64,
     pub lookups: u64,
     /// Packed lists that were damaged.
     pub damaged: u64,
@@ -61,6 +63,12 @@ fn math_over(sheet: &Sheet, events: &[Event]) -> bool {
         sheet.ends.get(next).is_some_and(|&end| end < e[END] as usize)
     };
     events.iter().any(|e| enters(INLINE_MATH, DISPLAY_MATH).contains(&e[KIND]) && over(e))
+}
+
+/// Whether a backslash stands straight behind a run that closes.
+fn escapes_behind_a_run(sheet: &Sheet, events: &[Event]) -> bool {
+    let behind = |e: &Event| (e[END] as usize) < sheet.ends[e[LINE] as usize] && sheet.text[e[END] as usize] == b'\\';
+    events.iter().any(|e| (EXIT + VERBATIM..=EXIT + DISPLAY_MATH).contains(&e[KIND]) && behind(e))
 }
 
 /// Whether there is a line on which no event starts, before one that has an event.
@@ -234,6 +242,7 @@ impl Checker {
         counts.over += u64::from(math_over(sheet, events));
         counts.later += u64::from(events.last().is_some_and(|e| e[LINE] > 0));
         counts.passed += u64::from(passes_a_line(events));
+        counts.escaped += u64::from(escapes_behind_a_run(sheet, events));
         self.laws.broken(sheet, reading, events).map_or(Ok(()), Err)?;
         self.packed(reading)
     }

@@ -5,6 +5,7 @@
 //! other ones for another seed.
 //! Status 1 at the first difference.
 //! `run lists [N [SEED]]`: compares packed lists alone, N of each kind (a million if it is left out).
+//! `run runs [N [SEED]]`: compares N random sheets of backticks and backslashes alone (20 million if it is left out).
 //! `run rows [SEED]`: prints the sample of the Rust's answers that the definition of a reading is computed on, `crates/reading/proofs/Sampled.antt`.
 //! `run sample`: prints the sample of the Rust's answers that `crates/replay` replays.
 //! `run sheets`: prints the sheets, with the Rust's answers, that `crates/replay_sheets` replays.
@@ -102,6 +103,7 @@ fn main() {
     let mut right = true;
     match word.as_deref() {
         Some("lists") => right = lists::compare(&mut Packer::new(seed_of(&third)), number_of(&second, 1_000_000), seed_of(&third)),
+        Some("runs") => right = sheets::compare_runs(number_of(&second, 20_000_000), seed_of(&third)),
         Some("rows") => rows::print(seed()),
         Some("sample") => sample::print(),
         Some("sheets") => stored::print(),

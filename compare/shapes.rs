@@ -255,8 +255,9 @@ const BEHIND: &[&str] = &[
     "$`", "[", "](b)", "\\]", "_",
 ];
 
-/// Runs of backticks and backslashes.
-fn behind_runs(r: &mut Random, out: &mut Vec<u8>) {
+/// A sheet of backticks and backslashes; none is damaged.
+pub fn behind_runs(r: &mut Random, sheet: &mut Sheet) -> bool {
+    let out = &mut sheet.text;
     out.clear();
     let few: Vec<&str> = (0..2 + r.below(6)).map(|_| BEHIND[r.below(BEHIND.len())]).collect();
     let any = r.below(3) == 0;
@@ -264,6 +265,8 @@ fn behind_runs(r: &mut Random, out: &mut Vec<u8>) {
         let piece = if any { BEHIND[r.below(BEHIND.len())] } else { few[r.below(few.len())] };
         out.extend(piece.as_bytes());
     }
+    cut(r, sheet);
+    false
 }
 
 /// Lines that end behind dollars, and begin with backticks: touching, or with a byte between them.
@@ -505,10 +508,7 @@ pub fn any(r: &mut Random, sheet: &mut Sheet) -> bool {
             braces(r, &mut sheet.text);
             cut(r, sheet);
         }
-        89..=104 => {
-            behind_runs(r, &mut sheet.text);
-            cut(r, sheet);
-        }
+        89..=104 => return behind_runs(r, sheet),
         _ => {
             text(r, &mut sheet.text);
             cut(r, sheet);

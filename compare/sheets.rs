@@ -5,7 +5,7 @@ use crate::lending::SURE;
 use crate::mivurakol::{code, FragmentAnswer, EVENT_NUMBERS, OPENER_NUMBERS, QUEUE_NUMBERS};
 use crate::model::Sizes;
 use crate::random::{strings, Random};
-use crate::shapes::{any, names, shapes, SHAPES};
+use crate::shapes::{any, behind_runs, names, shapes, SHAPES};
 use crate::sheet::Sheet;
 use crate::worked::{Worked, BEHIND_RUNS, BRACES, WORKED};
 use crate::written::WRITTEN;
@@ -192,8 +192,8 @@ fn braced(checker: &mut Checker) -> bool {
     true
 }
 
-/// Random sheets, damaged ones among them.
-fn random(checker: &mut Checker, sheets: u64, seed: u64) -> bool {
+/// Random sheets of a sort, damaged ones among them.
+fn random(checker: &mut Checker, sheets: u64, seed: u64, sort: fn(&mut Random, &mut Sheet) -> bool) -> bool {
     let started = Instant::now();
     let mut r = Random::new(seed);
     let mut sheet = Sheet::default();
@@ -203,7 +203,7 @@ fn random(checker: &mut Checker, sheets: u64, seed: u64) -> bool {
         if i > 0 && i % PROGRESS == 0 {
             eprintln!("sheets: {i} of {sheets} random ones ({:.0?})", started.elapsed());
         }
-        damaged += u64::from(any(&mut r, &mut sheet));
+        damaged += u64::from(sort(&mut r, &mut sheet));
         if model::unfit(&sheet, 0).is_some() {
             unfit += 1;
         } else {
@@ -228,15 +228,31 @@ fn random(checker: &mut Checker, sheets: u64, seed: u64) -> bool {
 pub fn compare(sheets: u64, seed: u64) -> Option<Checker> {
     let mut checker = Checker::new(seed);
     let c = &mut checker;
-    if !(worked(c) && written(c) && lookup::compare(seed) && limits::compare(c) && random(c, sheets, seed) && short(c) && braced(c)) {
+    if !(worked(c) && written(c) && lookup::compare(seed) && limits::compare(c) && random(c, sheets, seed, any) && short(c) && braced(c)) {
         return None;
     }
+    counted(&checker);
+    Some(checker)
+}
+
+/// Whether there is no difference in so many random sheets of backticks and backslashes.
+pub fn compare_runs(sheets: u64, seed: u64) -> bool {
+    let mut checker = Checker::new(seed);
+    let right = random(&mut checker, sheets, seed, behind_runs);
+    if right {
+        counted(&checker);
+    }
+    right
+}
+
+/// Says what was compared.
+fn counted(checker: &Checker) {
     for (reading, c) in checker.counts.iter().enumerate() {
         println!(
             "reading {reading}: answers {}; {} sheets with a lone brace read as Str, {} refused at an attribute block, {} of these behind a lone \
              brace; {} lists by the laws, {} of them 16 deep, {} with math over a line's end, {} with an event behind the first line, {} of these \
-             behind a line on which none starts, {} links, {} sheets with built labels, {} labels looked up; {} lists packed, unpacked, and unpacked \
-             with a byte changed, cut or added",
+             behind a line on which none starts, {} with a backslash straight behind a closing run, {} links, {} sheets with built labels, {} labels \
+             looked up; {} lists packed, unpacked, and unpacked with a byte changed, cut or added",
             by_code(&c.answers),
             c.lone,
             c.blocks,
@@ -246,6 +262,7 @@ pub fn compare(sheets: u64, seed: u64) -> Option<Checker> {
             c.over,
             c.later,
             c.passed,
+            c.escaped,
             c.links,
             c.built,
             c.lookups,
@@ -253,7 +270,6 @@ pub fn compare(sheets: u64, seed: u64) -> Option<Checker> {
         );
     }
     println!("fragments: answers {}", by_code(&checker.fragments));
-    Some(checker)
 }
 
 /// How often each code was answered.
