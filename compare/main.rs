@@ -6,6 +6,7 @@
 //! Status 1 at the first difference.
 //! `run lists [N [SEED]]`: compares packed lists alone, N of each kind (a million if it is left out).
 //! `run runs [N [SEED]]`: compares N random sheets of backticks and backslashes alone (20 million if it is left out).
+//! `run margin [N [SEED]]`: compares N pairs of texts that differ between lines alone, and N that differ in the byte before a line (5 million).
 //! `run rows [SEED]`: prints the sample of the Rust's answers that the definition of a reading is computed on, `crates/reading/proofs/Sampled.antt`.
 //! `run sample`: prints the sample of the Rust's answers that `crates/replay` replays.
 //! `run sheets`: prints the sheets, with the Rust's answers, that `crates/replay_sheets` replays.
@@ -28,6 +29,15 @@ mod strict {
 mod lex {
     include!(env!("LEX_RS"));
 }
+/// Both, with a line that says of each link which events its destination has (`margin::note`).
+#[allow(dead_code)]
+mod noted {
+    include!(env!("NOTED_RS"));
+}
+#[allow(dead_code)]
+mod noted_strict {
+    include!(env!("NOTED_STRICT_RS"));
+}
 type CowStr<'s> = std::borrow::Cow<'s, str>;
 
 mod browser;
@@ -40,6 +50,7 @@ mod lending;
 mod limits;
 mod lists;
 mod lookup;
+mod margin;
 #[path = "../interface/mivurakol.rs"]
 mod mivurakol;
 mod model;
@@ -74,6 +85,9 @@ fn compare(random: u64, seed: u64) -> bool {
     let Some(mut checker) = sheets::compare(random, seed) else {
         return false;
     };
+    if !margin::compare(random / 4, seed) {
+        return false;
+    }
     let packer = &mut checker.packer;
     if !lists::compare(packer, random, seed) {
         return false;
@@ -104,6 +118,7 @@ fn main() {
     match word.as_deref() {
         Some("lists") => right = lists::compare(&mut Packer::new(seed_of(&third)), number_of(&second, 1_000_000), seed_of(&third)),
         Some("runs") => right = sheets::compare_runs(number_of(&second, 20_000_000), seed_of(&third)),
+        Some("margin") => right = margin::compare(number_of(&second, 5_000_000), seed_of(&third)),
         Some("rows") => rows::print(seed()),
         Some("sample") => sample::print(),
         Some("sheets") => stored::print(),

@@ -140,7 +140,12 @@ typedef struct {
     size_t end;
 } mivurakol_line;
 
-/* Reads the lines of a text. Reading 0 is the Rust's, 1 the strict one. */
+/* Reads the lines of a text. Reading 0 is the Rust's, 1 the strict one.
+ *
+ * The bytes between two lines may be anything, and change between two calls, but for the single
+ * byte right before a line, which must stay: kinds, spans, lines and link numbers are then the
+ * same, unless a call is refused with MIVURAKOL_CODE_LABEL_ROOM. So is each label, but of a link
+ * with a link in its destination that runs over such bytes. */
 mivurakol_answer mivurakol_read(
     const uint8_t *text, size_t text_len,
     const mivurakol_line *lines, size_t lines_len,

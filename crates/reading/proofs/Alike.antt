@@ -1,153 +1,258 @@
--- The size of the label room changes nothing, as long as the labels fit: two readings of a sheet in which all did give the same, and drop the same.
+-- Two readings side by side: of two texts of one length that have the same views and agree where a reading looks, in two label rooms. Their events differ
+-- in the homes of links at most, whatever is in the label rooms; and where all labels fit, what a home holds is the same in both, save of the links that K leaves out.
 use Rattle.std.specs.Prelude.{None, Option, Some}
 use Rattle.reading.specs.declared.Place.{Place}
 use Rattle.reading.specs.declared.Verbatim.{Verbatim}
 use Prim.Native.Nat.{ℕ, zero, suc, ◌+◌}
-use mathlib.Core.Path.{◌≡◌, refl, sym, ap, ◌∙◌}
+use mathlib.Core.Path.{◌≡◌, refl, sym, ap, ◌∙◌, subst}
 use mathlib.Core.List.{List, [], ◌∷◌, ◌++◌}
-use mathlib.Core.Bool.{Bool, true, false}
-use lib.Dec.{leb}
-use lib.ListN.{length}
+use mathlib.Core.Bool.{Bool, true}
+use native.Mathlib.Omega.{arith}
+use borrow.Author.Tests.{eqb-true, eqb-false}
+use lib.Dec.{eqb}
+use lib.ListN.{length, length-append}
 use Rattle.lex.specs.declared.lex.Token.{Token}
 use Rattle.lex.specs.declared.lex.Cursor.{Cursor}
-use Rattle.lex.specs.Lexer.{peek_of}
+use Rattle.lex.specs.Lexer.{next_of}
 use Rattle.reading.specs.declared.Line.{Line}
-use Rattle.reading.specs.declared.Link.{Link}
+use Rattle.reading.specs.declared.Event.{Event}
 use Rattle.reading.specs.Walked.{events}
-use Rattle.reading.specs.Draining.{drain}
-use Rattle.reading.specs.Machine.{rules_of, View, Rules, Sheet, State, Turn, Here, with_openers}
+use Rattle.reading.specs.Machine.{rules_of, view_of, View, Rules, Sheet, State, Turn, Here}
 use Rattle.reading.specs.Tokens.{role_of}
 use Rattle.reading.specs.Verbatim.{ended_at}
-use Rattle.reading.specs.Labels.{Label, here, built, Labelled, label_home}
-use Rattle.reading.specs.Containers.{closes_link, close_as}
-use Rattle.reading.specs.Blocks.{block_at}
-use Rattle.reading.specs.Reading.{by_place, here_at, on_token, unless, steps, begun, lines, start, end_of, views, read, sheet}
-use Rattle.reading.specs.Dropped.{Content, no_content, step_drops, step_content, steps_drop, steps_content, lines_drop, dropped}
-use Rattle.reading.proofs.Ruling.{in_kept, ruled}
+use Rattle.reading.specs.Reading.{by_place, here_at, on_token, step, unless, steps, begun, line, lines, start, end_of, views, read, sheet}
+use Rattle.reading.specs.Dropped.{Content, no_content, drops_on, content_on, step_drops, step_content, steps_drop, steps_content, lines_drop, dropped}
+use Rattle.reading.specs.Margin.{Spanned, destination, steps_close, lines_close, destinations}
+use Rattle.reading.proofs.Choose.{choose}
+use Rattle.reading.proofs.Stepping.{either₂}
+use Rattle.reading.proofs.Links.{links-step, links-up}
+use Rattle.reading.proofs.Like.{AllLike, like-other, like-drained, same-events}
+use Rattle.reading.proofs.Telling.{Same}
+use Rattle.reading.proofs.Sides.{Side, Even, Facts, Then, outside-even, in-even, side-ended}
 
--- if all labels fit in two results, then they fitted before, and the two are the same
-abbrev Alike : {A : Type 0} → (A → Bool) → Bool → A → A → Type 0
-Alike fit before a b = fit a ≡ true → fit b ≡ true → (before ≡ true) × (a ≡ b)
+-- each step counts the links that it closes
+counted : (x : Sheet) (v : View) (a : Turn) → (step x v a).state.links.0 ≡ a.state.links.0 + length (destination a.state (step x v a).state)
+unfolding destination
+counted x v a =
+    choose (λ (ds : List (List Event)). (step x v a).state.links.0 ≡ a.state.links.0 + length ds) (eqb (step x v a).state.links.0 a.state.links.0) _ _
+    (λ e. omega (arith, eqb-true _ _ e))
+    (λ e. omega (arith, eqb-false _ _ e, links-step x v a, links-up x v a))
 
--- what goes on from such results in two rooms is alike too. (With one room for both, what goes on says that the labels fitted before)
-after : {A B : Type 0} (fit : A → Bool) (fit' : B → Bool) (f : ℕ → A → B) → ((m n : ℕ) (a : A) → Alike fit' (fit a) (f m a) (f n a))
-    → (m n : ℕ) (before : Bool) (a b : A) → Alike fit before a b → Alike fit' before (f m a) (f n b)
-after fit fit' f h m n before a b k e g =
-    let u = k (h m m a e e).0 (h n n b g g).0 in
-    (u.0, (h m n a e (rw u.1 g)).1 ∙ ap (f n) u.1)
+steps-counted : (n : ℕ) (x : Sheet) (v : View) (a : Turn) → (steps n x v a).state.links.0 ≡ a.state.links.0 + length (steps_close n x v a)
+unfolding steps steps_close
+steps-counted zero x v a = omega arith
+steps-counted (suc n) x v a =
+    either₂ (λ (ds : List (List Event)) (b : Turn). b.state.links.0 ≡ a.state.links.0 + length ds) a.state.refused _ _ _ _ (λ p e. omega arith)
+    (λ e. omega (arith, counted x v a, steps-counted n x v (step x v a), length-append (destination a.state (step x v a).state) (steps_close n x v (step x v a))))
 
--- two choices between what fits and what does not, by two tests
-chosen : {A : Type 0} (fit : A → Bool) (a b : A) → fit b ≡ false → (i j : Bool)
-    → Alike fit true (elim i [ true ↦ a | false ↦ b ]) (elim j [ true ↦ a | false ↦ b ])
-chosen fit a b out true true = λ e f. (refl, refl)
-chosen fit a b out true false = λ e f. (refl, cc)
-chosen fit a b out false j = λ e f. (refl, cc)
+-- a turn with another state
+abbrev from : Turn → State → Turn
+from a s = record { cursor = a.cursor; state = s }
 
--- the label of a link
-label-home-alike : (m n : ℕ) (k : Link) (labels : List ℕ) (fits : Bool) (l : Label)
-    → Alike (λ (z : Labelled). z.fits) fits (label_home m k labels fits l) (label_home n k labels fits l)
-unfolding label_home
-label-home-alike m n k labels fits (here a b) = λ e f. (e, refl)
-label-home-alike m n k labels false (built bs) = λ e f. (e, refl)
-label-home-alike m n k labels true (built bs) =
-    chosen (λ (z : Labelled). z.fits) _ _ refl (leb (length labels + length bs) m) (leb (length labels + length bs) n)
+-- what K is of the links from the k-th on, by their destinations
+module _ (t u : List ℕ) (K : ℕ → Type 0) where
+  unfoldable pub Ahead : ℕ → List (List Event) → Type 0
+  Ahead k [] = Unit {0}
+  Ahead k (d ∷ ds) = (K k → (j : ℕ) → Spanned j d → Same t u j) × Ahead (suc k) ds
 
-ended-fits : (b : ℕ) (w : Option Verbatim) (s : State) → (ended_at b w s).fits ≡ s.fits
-unfolding ended_at
-ended-fits b None s = refl
-ended-fits b (Some w) s = refl
+  ahead-left : (k : ℕ) (a b : List (List Event)) → Ahead k (a ++ b) → Ahead k a
+  unfolding Ahead
+  ahead-left k [] b h = tt
+  ahead-left k (d ∷ a) b h = (h.0, ahead-left (suc k) a b h.1)
 
--- turns behind a state
-abbrev Turned : State → Turn → Turn → Type 0
-Turned s = Alike (λ (a : Turn). a.state.fits) s.fits
+  ahead-right : (k : ℕ) (a b : List (List Event)) → Ahead k (a ++ b) → Ahead (k + length a) b
+  unfolding Ahead
+  ahead-right k [] b h = subst (λ (n : ℕ). Ahead n b) (omega arith) h
+  ahead-right k (d ∷ a) b h = subst (λ (n : ℕ). Ahead n b) (omega arith) (ahead-right (suc k) a b h.1)
 
--- the turn of a rule that asks for no room
-same : (s : State) (a : Turn) → a.state.fits ≡ s.fits → Turned s a a
-same s a k e f = (sym k ∙ e, refl)
+  -- where the texts are the same everywhere
+  pub ahead-all : ((j : ℕ) → Same t u j) → (k : ℕ) (ds : List (List Event)) → Ahead k ds
+  unfolding Ahead
+  ahead-all f k [] = tt
+  ahead-all f k (d ∷ ds) = (λ y j z. f j, ahead-all f (suc k) ds)
 
--- so many steps: the turn behind them, what they drop, and the content
-abbrev Run : Type 0
-Run = Turn × List Line × Content
+  ahead-now : (k : ℕ) (a : List (List Event)) → Ahead k a → (ds : List Event) → a ≡ ds ∷ [] → K k → (j : ℕ) → Spanned j ds → Same t u j
+  unfolding Ahead
+  ahead-now k a h ds e = (subst (λ (l : List (List Event)). Ahead k l) e h).0
 
-abbrev Ran : State → Run → Run → Type 0
-Ran s = Alike (λ (r : Run). r.0.state.fits) s.fits
+module _ (t u : List ℕ) (long : length t ≡ length u) (K : ℕ → Type 0) (One : Type 0) (one : One → (n : ℕ) → K n) (rules : Rules) (block : ℕ → Bool) (m n : ℕ)
+    (Ok : View → Turn → Type 0) (Oks : List Line → State → Type 0) where
+  abbrev x : Sheet
+  x = record { rules = rules; text = t; room = m; block = block }
 
-either-ran : (a : Turn) (c : Content) (r : Option Place) (p q : Run) → Ran a.state p q
-    → Ran a.state (unless r a p.0, unless r [] p.1, unless r c p.2) (unless r a q.0, unless r [] q.1, unless r c q.2)
-unfolding unless
-either-ran a c (Some at) p q k = λ e f. (e, refl)
-either-ran a c None p q k = k
+  abbrev y : Sheet
+  y = record { rules = rules; text = u; room = n; block = block }
 
--- all lines: the state behind them, and what they drop
-abbrev Lines : Type 0
-Lines = State × List Line
+  module _ (facts : (v : View) (a : Turn) → Ok v a → a.state.refused ≡ None → Facts t u K One v a.state a.cursor.pos (step x v a).cursor.pos)
+      (next : (v : View) (a : Turn) → Ok v a → a.state.refused ≡ None → Ok v (step x v a))
+      (begin : (l : Line) (ls : List Line) (s : State) → Oks (l ∷ ls) s → Ok (view_of t l) (begun x (view_of t l) s))
+      (rest : (l : Line) (ls : List Line) (s : State) → Oks (l ∷ ls) s → Oks ls (line x (view_of t l) s)) where
+    -- one step
+    module _ (v : View) (a : Turn) (r : State) (d : Side t u K One a.state r) where
+      abbrev b : Turn
+      b = from a r
 
-module _ (rules : Rules) (text : List ℕ) (block : ℕ → Bool) where
-  -- the sheet, with a label room of so many bytes
-  abbrev with-room : ℕ → Sheet
-  with-room m = record { rules = rules; text = text; room = m; block = block }
+      step-even : Facts t u K One v a.state a.cursor.pos (step x v a).cursor.pos → Ahead t u K a.state.links.0 (destination a.state (step x v a).state)
+          → Even t u K One (step x v a) (step y v b)
+      unfolding on_token by_place
+      step-even f h = on (next_of v.bytes a.cursor).token (ahead-now t u K _ _ h) (omega arith)
+        where
+          to : ℕ
+          to = (step x v a).cursor.pos
 
-  module _ (m n : ℕ) (v : View) where
-    abbrev x : Sheet
-    x = with-room m
+          by : (h : Here) → h.from ≡ a.cursor.pos → (tk : Token) (w : Option Verbatim)
+              → Then t u long K One one rules block m n v a.cursor.pos a.state r d to f (by_place x v h tk w a.state) (by_place y v h tk w r)
+          by h e tk None = outside-even t u long K One one rules block m n v a.cursor.pos a.state r d to f h e (role_of tk.kind)
+          by h e tk (Some w) = in-even t u long K One one rules block m n v a.cursor.pos a.state r d to f h w tk
 
-    abbrev y : Sheet
-    y = with-room n
+          on : (tk : Option Token)
+              → Then t u long K One one rules block m n v a.cursor.pos a.state r d to f (on_token x v a tk (next_of v.bytes a.cursor).cursor) (on_token y v b tk (next_of v.bytes a.cursor).cursor)
+          on None = λ now l. record { cursor = refl; state = d }
+          on (Some tk) =
+              let h = here_at a.cursor tk (next_of v.bytes a.cursor).cursor in
+              subst (λ (w : Option Verbatim). Then t u long K One one rules block m n v a.cursor.pos a.state r d to f (by_place x v h tk a.state.inside a.state) (by_place y v h tk w r))
+              (sym d.inside) (by h refl tk a.state.inside)
 
-    by_alike : (s : State) (h : Here) (t : Token) (w : Option Verbatim) → Turned s (by_place x v h t w s) (by_place y v h t w s)
-    unfolding by_place close_as
-    by_alike s h t None =
-        ruled x y v s (Turned s) (λ a k. same s a (ap (λ z. z.3) k))
-        (λ h o t os e f.
-        let u = label-home-alike m n s.links s.labels s.fits _ e f in
-        (u.0, ap (λ (l : Labelled). record { cursor = (peek_of v.bytes h.cursor).cursor; state = closes_link t.container l v h o (with_openers os s) }) u.1))
-        (λ h e f. (e, refl)) (λ p. refl) (λ h e f. (e, refl)) h (role_of t.kind)
-    by_alike s h t (Some w) = same s _ (ap (λ z. z.2) (in_kept v h s rules t w))
+      -- what it drops, and the content
+      drops-same : (c : Content) → step_drops v b c ≡ step_drops v a c
+      unfolding drops_on
+      drops-same c = go (next_of v.bytes a.cursor).token
+        where
+          go : (tk : Option Token) → drops_on v b tk (next_of v.bytes a.cursor).cursor c ≡ drops_on v a tk (next_of v.bytes a.cursor).cursor c
+          go None = refl
+          go (Some tk) = rw d.inside
 
-    on_alike : (a : Turn) (t : Option Token) (c : Cursor) → Turned a.state (on_token x v a t c) (on_token y v a t c)
-    unfolding on_token
-    on_alike a None c = λ e f. (e, refl)
-    on_alike a (Some t) c = by_alike a.state (here_at a.cursor t c) t a.state.inside
+      content-same : (c : Content) → step_content v b c ≡ step_content v a c
+      unfolding content_on
+      content-same c = go (next_of v.bytes a.cursor).token
+        where
+          go : (tk : Option Token) → content_on v b tk (next_of v.bytes a.cursor).cursor c ≡ content_on v a tk (next_of v.bytes a.cursor).cursor c
+          go None = refl
+          go (Some tk) = rw d.inside
 
-  abbrev run : ℕ → View → Content → ℕ → Turn → Run
-  run k v c m a = (steps k (with-room m) v a, steps_drop k (with-room m) v a c, steps_content k (with-room m) v a c)
+    -- so many steps
+    record Ran (k : ℕ) (v : View) (a b : Turn) : Type 0 where
+      even : Even t u K One (steps k x v a) (steps k y v b)
+      drops : (c : Content) → steps_drop k y v b c ≡ steps_drop k x v a c
+      content : (c : Content) → steps_content k y v b c ≡ steps_content k x v a c
 
-  steps_alike : (k : ℕ) (v : View) (c : Content) (m n : ℕ) (a : Turn) → Ran a.state (run k v c m a) (run k v c n a)
-  unfolding steps steps_drop steps_content
-  steps_alike zero v c m n a = λ e f. (e, refl)
-  steps_alike (suc k) v c m n a =
-      let d = step_content v a c in
-      either-ran a c a.state.refused _ _
-      (λ e f.
-      let u = after _ (λ (r : Run). r.0.state.fits) (run k v d) (steps_alike k v d) m n _ _ _ (on_alike m n v a _ _) e f in
-      (u.0, ap (λ (r : Run). (r.0, step_drops v a c ++ r.1, r.2)) u.1))
+    steps-next : (k : ℕ) (v : View) (a b : Turn) → Even t u K One a b
+        → (a.state.refused ≡ None → Ran k v (step x v a) (step y v (from a b.state))) → Ran (suc k) v a b
+    unfolding steps steps_drop steps_content
+    steps-next k v a b e later =
+        subst (λ (z : Turn). Ran (suc k) v a z) (ap (λ (c : Cursor). record { cursor = c; state = b.state }) (sym e.cursor))
+        (record {
+          even = subst (λ (p : Option Place). Even t u K One (steps (suc k) x v a) (unless p (from a b.state) (steps k y v (step y v (from a b.state))))) (sym e.state.refused)
+              (either₂ (Even t u K One) a.state.refused _ _ _ _ (λ p z. record { cursor = refl; state = e.state }) (λ z. (later z).even));
+          drops = λ c.
+              subst
+              (λ (p : Option Place).
+              unless p [] (step_drops v (from a b.state) c ++ steps_drop k y v (step y v (from a b.state)) (step_content v (from a b.state) c)) ≡ steps_drop (suc k) x v a c)
+              (sym e.state.refused)
+              (either₂ (λ (p q : List Line). q ≡ p) a.state.refused _ _ _ _ (λ p z. refl)
+              (λ z.
+              ap (λ (l : List Line). l ++ steps_drop k y v (step y v (from a b.state)) (step_content v (from a b.state) c)) (drops-same v a b.state e.state c)
+              ∙ ap (λ (g : Content). step_drops v a c ++ steps_drop k y v (step y v (from a b.state)) g) (content-same v a b.state e.state c)
+              ∙ ap (λ (l : List Line). step_drops v a c ++ l) ((later z).drops (step_content v a c))));
+          content = λ c.
+              subst (λ (p : Option Place). unless p c (steps_content k y v (step y v (from a b.state)) (step_content v (from a b.state) c)) ≡ steps_content (suc k) x v a c)
+              (sym e.state.refused)
+              (either₂ (λ (p q : Content). q ≡ p) a.state.refused _ _ _ _ (λ p z. refl)
+              (λ z.
+              ap (λ (g : Content). steps_content k y v (step y v (from a b.state)) g) (content-same v a b.state e.state c)
+              ∙ (later z).content (step_content v a c)));
+        })
 
-  abbrev all : List View → Content → ℕ → State → Lines
-  all vs c m s = (lines (with-room m) vs s, lines_drop (with-room m) vs s c)
+    ahead : (k : ℕ) (v : View) (a : Turn) → a.state.refused ≡ None → Ahead t u K a.state.links.0 (steps_close (suc k) x v a)
+        → Ahead t u K a.state.links.0 (destination a.state (step x v a).state ++ steps_close k x v (step x v a))
+    unfolding steps_close unless
+    ahead k v a z h = subst (λ (p : Option Place). Ahead t u K a.state.links.0 (unless p [] (destination a.state (step x v a).state ++ steps_close k x v (step x v a)))) z h
 
-  lines-alike : (vs : List View) (c : Content) (m n : ℕ) (s : State) → Alike (λ (l : Lines). l.0.fits) s.fits (all vs c m s) (all vs c n s)
-  unfolding lines lines_drop
-  lines-alike [] c m n s = λ e f. (e, refl)
-  lines-alike (v ∷ vs) c m n s =
-      let more : Run → Lines → Lines = λ r l. (l.0, r.1 ++ l.1) in
-      after _ (λ (l : Lines). l.0.fits) (λ i r. more r (all vs r.2 i r.0.state))
-      (λ i j r e f. let u = lines-alike vs r.2 i j r.0.state e f in (u.0, ap (more r) u.1)) m n _ _ _
-      (steps_alike (length v.bytes) v c m n (begun (with-room m) v s))
+    steps-even : (k : ℕ) (v : View) (a b : Turn) → Ok v a → Ahead t u K a.state.links.0 (steps_close k x v a) → Even t u K One a b → Ran k v a b
+    unfolding steps steps_drop steps_content
+    steps-even zero v a b ok h e = record { even = e; drops = λ c. refl; content = λ c. refl }
+    steps-even (suc k) v a b ok h e =
+        steps-next k v a b e
+        (λ z.
+        let l = ahead k v a z h in
+        steps-even k v (step x v a) (step y v (from a b.state)) (next v a ok z)
+        (subst (λ (j : ℕ). Ahead t u K j (steps_close k x v (step x v a))) (sym (counted x v a)) (ahead-right t u K _ (destination a.state (step x v a).state) _ l))
+        (step-even v a b.state e.state (facts v a ok z) (ahead-left t u K _ _ _ l)))
 
-  module _ (m n : ℕ) (ls : List Line) (e : (read (with-room m) ls).fits ≡ true) (f : (read (with-room n) ls).fits ≡ true) where
-    all_alike : all (views text ls) no_content m start ≡ all (views text ls) no_content n start
-    all_alike = (lines-alike (views text ls) no_content m n start (sym (ended-fits _ _ _) ∙ e) (sym (ended-fits _ _ _) ∙ f)).1
+    -- lines
+    begun-even : (v : View) (s r : State) → Side t u K One s r → Even t u K One (begun x v s) (begun y v r)
+    begun-even v s r d =
+        record {
+          cursor = rw d.inside;
+          state = record {
+            openers = d.openers;
+            inside = rw d.inside;
+            last = d.last;
+            links = d.links;
+            refused = d.refused;
+            queue = d.queue;
+            labels = d.labels;
+          };
+        }
 
-    pub read_alike : read (with-room m) ls ≡ read (with-room n) ls
-    read_alike = ap (λ (l : Lines). ended_at (end_of ls 0) l.0.inside l.0) all_alike
+    record Read (vs : List View) (s r : State) : Type 0 where
+      side : Side t u K One (lines x vs s) (lines y vs r)
+      drops : (c : Content) → lines_drop y vs r c ≡ lines_drop x vs s c
 
-    pub dropped-alike : dropped (with-room m) ls ≡ dropped (with-room n) ls
-    dropped-alike = ap (λ (l : Lines). l.1) all_alike
+    lines-even : (ls : List Line) (s r : State) → Oks ls s → Ahead t u K s.links.0 (lines_close x (views t ls) s) → Side t u K One s r → Read (views t ls) s r
+    unfolding lines lines_drop lines_close
+    lines-even [] s r ok h d = record { side = d; drops = λ c. refl }
+    lines-even (l ∷ ls) s r ok h d =
+        let v = view_of t l in
+        let k = length v.bytes in
+        let e = steps-even k v (begun x v s) (begun y v r) (begin l ls s ok) (ahead-left t u K _ _ _ h) (begun-even v s r d) in
+        let z = lines-even ls (line x v s) (line y v r) (rest l ls s ok)
+        (subst (λ (j : ℕ). Ahead t u K j (lines_close x (views t ls) (line x v s))) (sym (steps-counted k x v (begun x v s))) (ahead-right t u K _ (steps_close k x v (begun x v s)) _ h))
+        e.even.state in
+        record { side = z.side; drops = λ c. rw (e.drops c, e.content c, z.drops (steps_content k x v (begun x v s) c)) }
 
--- so the events of a sheet are one list, and what it drops is fixed, whatever label room holds its labels
+    start-side : Side t u K One start start
+    unfolding AllLike
+    start-side = record { openers = refl; inside = refl; last = refl; links = refl; refused = refl; queue = tt; labels = λ o e f. refl }
+
+    -- a sheet
+    module _ (ls : List Line) (same : views u ls ≡ views t ls) (ok : Oks ls start) (h : Ahead t u K 0 (destinations x ls)) where
+      all : Read (views t ls) start start
+      all = lines-even ls start start ok h start-side
+
+      pub read-side : Side t u K One (read x ls) (read y ls)
+      read-side =
+          let s = lines x (views t ls) start in
+          let r = lines y (views t ls) start in
+          rw same
+          (subst (λ (w : Option Verbatim). Side t u K One (ended_at (end_of ls 0) s.inside s) (ended_at (end_of ls 0) w r)) (sym all.side.inside)
+          (side-ended t u K One (end_of ls 0) s.inside s r all.side))
+
+      pub dropped-side : dropped y ls ≡ dropped x ls
+      dropped-side = rw same (all.drops no_content)
+
+-- So the events of a sheet are one list, and what it drops is fixed, whatever label room holds its labels
 pub one_list : (text : List ℕ) (reading m n : ℕ) (ls : List Line) → (read (sheet text ls reading m) ls).fits ≡ true → (read (sheet text ls reading n) ls).fits ≡ true
     → (events (sheet text ls reading m) ls ≡ events (sheet text ls reading n) ls) × (dropped (sheet text ls reading m) ls ≡ dropped (sheet text ls reading n) ls)
-one_list text reading m n ls e f = (
-  ap (λ (s : State). drain s.queue) (read_alike (rules_of reading) text (block_at (views text ls)) m n ls e f),
-  dropped-alike (rules_of reading) text (block_at (views text ls)) m n ls e f,
-)
+one_list text reading m n ls e f =
+    (sym (same-events _ _ (like-drained _ refl 0 0 _ _ (like-other (λ h k z. (z e f).all tt) _ _ side.queue))), sym drops)
+  where
+    Every : ℕ → Type 0
+    Every j = Unit {0}
+
+    block : ℕ → Bool
+    block = (sheet text ls reading m).block
+
+    facts : (v : View) (a : Turn) → Unit {0} → a.state.refused ≡ None
+        → Facts text text Every (Unit {0}) v a.state a.cursor.pos (step (record { rules = rules_of reading; text = text; room = m; block = block }) v a).cursor.pos
+    facts v a ok z = record { shown = λ j y. refl; behind = λ k l j y w. refl; line = λ j y w. refl }
+
+    side : Side text text Every (Unit {0}) (read (sheet text ls reading m) ls) (read (sheet text ls reading n) ls)
+    side =
+        read-side text text refl Every (Unit {0}) (λ o j. tt) (rules_of reading) block m n (λ v a. Unit {0}) (λ ls s. Unit {0}) facts (λ v a ok z. tt)
+        (λ l ls s ok. tt) (λ l ls s ok. tt) ls refl tt (ahead-all text text Every (λ j. refl) 0 _)
+
+    drops : dropped (sheet text ls reading n) ls ≡ dropped (sheet text ls reading m) ls
+    drops =
+        dropped-side text text refl Every (Unit {0}) (λ o j. tt) (rules_of reading) block m n (λ v a. Unit {0}) (λ ls s. Unit {0}) facts (λ v a ok z. tt)
+        (λ l ls s ok. tt) (λ l ls s ok. tt) ls refl tt (ahead-all text text Every (λ j. refl) 0 _)

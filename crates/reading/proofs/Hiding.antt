@@ -60,7 +60,7 @@ unfolding Shown
 shown-right i [] b x = x
 shown-right i (e ∷ a) b x = inr (shown-right i a b x)
 
-shown-take : (i n : ℕ) (q : List Event) → Shown i (take n q) → Shown i q
+pub shown-take : (i n : ℕ) (q : List Event) → Shown i (take n q) → Shown i q
 unfolding Shown
 shown-take i zero q x = absurd x
 shown-take i (suc n) [] x = absurd x
@@ -227,7 +227,7 @@ module _ (Loose : ℕ → Type 0) (text : List ℕ) (x : Sheet) (v : View) (i n 
 
   pub outside-grows : (h : Here) → At h → (r : Role) → Grows (v.base + i) s.queue (outside x v h r s).state.queue
   outside-grows h a r =
-      by-rule-where x x v s Then At (λ r. Unit {0}) (λ h j c l a. (a.0, omega (arith, l, a.1))) tt tt
+      by-rule-where x x v s s refl (λ h o. refl) Then At (λ r. Unit {0}) (λ h j c l a. (a.0, omega (arith, l, a.1))) tt tt
       (λ h a m ok. opens-grows h a m.alone m.opens)
       closes-grows
       (λ h a k. grows-puts _ s.queue s.queue _ (grows_same _ s.queue)
@@ -273,7 +273,7 @@ kept-shown : (w : Verbatim) (i : ℕ) (q : List Event) → Shown i (kept w q) �
 unfolding kept
 kept-shown w i q = choose (λ (l : List Event). Shown i l → Shown i q) w.run _ _ (λ e. shown-take i w.keep q) (λ e x. x)
 
-good-covers : (Loose : ℕ → Type 0) (text : List ℕ) (w : Option Verbatim) (at n : ℕ) (s : State) → GoodBy Loose text w at n s → Covers Loose 0 s.queue at
+pub good-covers : (Loose : ℕ → Type 0) (text : List ℕ) (w : Option Verbatim) (at n : ℕ) (s : State) → GoodBy Loose text w at n s → Covers Loose 0 s.queue at
 unfolding GoodBy
 good-covers Loose text None at n s g = g.covers
 good-covers Loose text (Some w) at n s g = g.covers
@@ -382,7 +382,7 @@ Off v i a = a.state.refused ≡ None → (i < v.base + a.cursor.pos) × (Shown i
 module _ (text : List ℕ) (x : Sheet) (v : View) (m : ℕ) (shows : Shows text v) where
   module _ (a : Turn) (un : a.state.refused ≡ None) (held : Held Any text v m 0 a) where
     -- a step shows nothing anew that lies before it
-    step-grows : Grows (v.base + a.cursor.pos) a.state.queue (step x v a).state.queue
+    pub step-grows : Grows (v.base + a.cursor.pos) a.state.queue (step x v a).state.queue
     unfolding on_token by_place GoodBy
     step-grows = on (next_of v.bytes a.cursor).token refl
       where

@@ -243,7 +243,7 @@ module _ (x : Sheet) (labels : ℕ) where
     outside-homed : (h : Here) → At h → (r : Role) → RoleOk r → Then v (outside x v h r s)
     unfolding RoleOk
     outside-homed =
-        by-rule-where x x v s (λ a b. Then v a) At RoleOk (λ h j c l a. a) (plain_ok str (omega arith)) bracket-ok
+        by-rule-where x x v s s refl (λ h o. refl) (λ a b. Then v a) At RoleOk (λ h j c l a. a) (plain_ok str (omega arith)) bracket-ok
         (λ h a m ok z. opens-homed h m.alone m.opens ok.0)
         (λ h a c o os e z. closed-homed h a o os (closing_of o.sort) (closing-ok o.sort))
         (λ h a n z f l. all_append _ _ (k f l) (all-address _ _ _ _ (omega arith) (omega arith)))

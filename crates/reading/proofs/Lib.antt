@@ -25,7 +25,11 @@ pub mod Hiding
 pub mod Locating
 pub mod Homing
 pub mod Dropping
+pub mod Like
+pub mod Telling
+pub mod Sides
 pub mod Alike
+pub mod Margins
 pub mod Theorems
 pub mod Stopping
 pub mod Answers

@@ -17,5 +17,6 @@ pub mod Questions
 pub mod Refusals
 pub mod Homes
 pub mod Walked
+pub mod Margin
 pub mod Sheets
 pub mod Worked

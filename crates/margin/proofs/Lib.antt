@@ -1,0 +1,2 @@
+pub mod Margin
+pub mod Fragments

@@ -1,0 +1,1 @@
+// What the bytes between two lines may touch: a theorem of two calls, and no code.
