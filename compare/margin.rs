@@ -152,8 +152,8 @@ const PIECES: &[&str] = &[
     "--", "...", " ", "\n",
 ];
 
-/// A link with a link in its destination.
-const WITHIN: &[&str] = &["[", "a", "](", "x", "[b", "](", "c", "d", ")", "e", ")"];
+/// A link with a link in its destination. Each letter may be missing.
+const WITHIN: &[&str] = &["[", "a", "](", "x", "[", "b", "](", "c", "d", ")", "e", ")"];
 
 /// A sheet of links, cut into lines with up to three bytes between two.
 fn linked(r: &mut Random, sheet: &mut Sheet) {
@@ -165,7 +165,7 @@ fn linked(r: &mut Random, sheet: &mut Sheet) {
     let mut pieces: Vec<&str> = Vec::new();
     for _ in 0..2 + r.below(20) {
         match r.below(32) {
-            0 => pieces.extend(WITHIN),
+            0 => pieces.extend(WITHIN.iter().filter(|p| !p.starts_with(char::is_alphabetic) || r.below(2) == 0)),
             _ => pieces.push(few[r.below(few.len())]),
         }
     }
