@@ -15,7 +15,7 @@ use crate::random::Random;
 use crate::shapes::{any, cut};
 use crate::sheet::Sheet;
 use crate::shown::shown;
-use crate::worked::{BEHIND_RUNS, BRACES, WORKED};
+use crate::worked::TABLES;
 use crate::written::WRITTEN;
 use std::fmt::Write;
 use std::path::{Path, PathBuf};
@@ -190,7 +190,7 @@ fn places(seed: u64) -> Vec<Place> {
     let mut expect = Expect::new();
     let mut r = Random::new(seed);
     let mut places: Vec<Place> = Vec::new();
-    places.extend(WORKED.iter().chain(BRACES).chain(BEHIND_RUNS).filter_map(|w| place(w.sheet(), w.reading, &mut expect)));
+    places.extend(TABLES.iter().copied().flatten().filter_map(|w| place(w.sheet(), w.reading, &mut expect)));
     places.extend(WRITTEN.iter().filter_map(|(text, _)| place(Sheet::by_newline(text.as_bytes()), 0, &mut expect)));
     for hostile in [false, true] {
         let end = places.len() + SHEETS;

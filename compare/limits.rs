@@ -7,7 +7,7 @@ use crate::mivurakol::{self, code, Answer, Line, ENTER, EVENT_NUMBERS, EXIT, LAB
 use crate::model::Sizes;
 use crate::random::strings;
 use crate::sheet::Sheet;
-use crate::worked::{BEHIND_RUNS, BRACES, WORKED};
+use crate::worked::TABLES;
 use std::time::Instant;
 
 /// One sheet in one reading with some rooms, to be asked about first.
@@ -80,7 +80,7 @@ fn rooms(checker: &mut Checker) -> bool {
         (b"*<a>&* $`b`\\\n\"c\"", &[(0, 13), (13, 16)]),
         (b"`<b>`{=html}\xff<", &[(0, 14)]),
     ];
-    let mut sheets: Vec<Sheet> = WORKED.iter().chain(BRACES).chain(BEHIND_RUNS).map(|w| w.sheet()).filter(|s| s.text.len() < 20).collect();
+    let mut sheets: Vec<Sheet> = TABLES.iter().copied().flatten().map(|w| w.sheet()).filter(|s| s.text.len() < 20).collect();
     sheets.extend(others.iter().map(|(text, lines)| Sheet::new(text, lines)));
     let mut calls = 0;
     for sheet in &sheets {
@@ -248,10 +248,12 @@ fn fills(labels: &mut [u8], over: bool) -> bool {
     // The outermost link is all that is handed out.
     let home = in_labels((LABEL_LIMIT - inner - 4 * (links - 1)) as u32, LABEL_LIMIT as u32, links as u32 - 1);
     let list = [homed(ENTER + INLINE_LINK, home, 0, 1), homed(EXIT + INLINE_LINK, home, 1, n as u32)].concat();
+    // Each `[` looks at the openers of the links around it, the newline at all of them, each `]` and `)` at one.
+    let looks = (links * (links - 1) / 2 + 3 * links) as u64;
     let (expected, list, links) = if over {
         (Answer { code: code::LABEL_ROOM, ..Answer::default() }, Vec::new(), 0)
     } else {
-        (Answer { code: code::ACCEPTED, place: 0, events: 2, labels: LABEL_LIMIT as u32 }, list, links)
+        (Answer { code: code::ACCEPTED, place: 0, events: 2, labels: LABEL_LIMIT as u32, looks }, list, links)
     };
     let zero = |room: &[u32]| room.iter().all(|&x| x == 0);
     let right = events.starts_with(&list) && zero(&events[list.len()..]) && zero(&queue) && zero(&openers) && holds(links, inner, labels);
@@ -286,7 +288,32 @@ fn longest_room(checker: &mut Checker) -> bool {
     true
 }
 
+/// Brackets that never close: each looks at all that are open, and all together at N (N - 1) / 2, the most that there is.
+fn searched(n: usize) -> bool {
+    let text = vec![b'['; n];
+    let mut events = vec![0x55; EVENT_NUMBERS * (n + 1)];
+    let mut queue = vec![0x55; QUEUE_NUMBERS * (2 * n + 1)];
+    let mut openers = vec![0x55; OPENER_NUMBERS * n];
+    let mut rooms = mivurakol::Rooms { events: &mut events, queue: &mut queue, openers: &mut openers, labels: &mut [] };
+    let answer = mivurakol::read(&text, &[Line { start: 0, end: n }], 0, &mut rooms);
+    let expected = Answer { code: code::ACCEPTED, place: 0, events: 1, labels: 0, looks: (n * (n - 1) / 2) as u64 };
+    if answer != expected {
+        println!("difference: {n} brackets, {expected:?} is expected, the answer is {answer:?}");
+    }
+    answer == expected
+}
+
+/// The longest searches: in small as the Rust, then as many that 32 bits do not hold their count, and as long a text as there is.
+fn longest_search(checker: &mut Checker) -> bool {
+    let large = [92_682, 92_683, LARGEST];
+    if !(1..60).all(|n| checker.right(&Sheet::line(&vec![b'['; n]), 2)) || !large.iter().all(|&n| searched(n)) {
+        return false;
+    }
+    println!("limits: the searches of up to {LARGEST} brackets");
+    true
+}
+
 /// Whether there is no difference.
 pub fn compare(checker: &mut Checker) -> bool {
-    rooms(checker) && lines(checker) && large(checker) && longest_room(checker)
+    rooms(checker) && lines(checker) && large(checker) && longest_search(checker) && longest_room(checker)
 }

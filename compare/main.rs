@@ -29,13 +29,13 @@ mod strict {
 mod lex {
     include!(env!("LEX_RS"));
 }
-/// Both, with a line that says of each link which events its destination has (`margin::note`).
+/// Both, with a line that says of each link which events its destination has, and one that says of each token how it seeks (`noted`).
 #[allow(dead_code)]
-mod noted {
+mod noting {
     include!(env!("NOTED_RS"));
 }
 #[allow(dead_code)]
-mod noted_strict {
+mod noting_strict {
     include!(env!("NOTED_STRICT_RS"));
 }
 type CowStr<'s> = std::borrow::Cow<'s, str>;
@@ -54,6 +54,7 @@ mod margin;
 #[path = "../interface/mivurakol.rs"]
 mod mivurakol;
 mod model;
+mod noted;
 mod oracle;
 mod ours;
 mod packed;

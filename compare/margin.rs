@@ -1,61 +1,24 @@
 //! What the bytes between two lines may touch (document 02, L7): two texts that differ in these alone, read alike; and two that differ in the byte before
 //! a line, of which some must not be.
 
-use crate::attr;
 use crate::mivurakol::field::{HOME, HOME_END, HOME_START, LINK};
 use crate::mivurakol::{self, code, fragment_room, home, Answer, Event, FragmentAnswer, Line, EVENT_NUMBERS, OPENER_NUMBERS, QUEUE_NUMBERS};
 use crate::model::{self, Sizes};
+use crate::noted;
 use crate::random::{Random, TELLING};
 use crate::rooms::Rooms;
 use crate::shapes::any;
 use crate::sheet::Sheet;
-use std::cell::RefCell;
-use std::ops::Range;
 use std::time::Instant;
 
 /// After how many pairs it is said how far a run is.
 const PROGRESS: u64 = 1_000_000;
 
-thread_local! {
-    static CLOSED: RefCell<Vec<Vec<Range<usize>>>> = const { RefCell::new(Vec::new()) };
-}
-
-/// A link closes: the spans of the events of its destination. The Rust says so in the line that `compare/run` adds.
-pub fn note(spans: Vec<Range<usize>>) {
-    CLOSED.with_borrow_mut(|closed| closed.push(spans));
-}
-
-/// The Rust reads a sheet, and what it says of its links is kept.
-macro_rules! reads {
-    ($name:ident, $module:ident) => {
-        fn $name(text: &str, sheet: &Sheet) {
-            let n = sheet.starts.len();
-            if n == 0 {
-                return;
-            }
-            let mut parser = crate::$module::Parser::new(text);
-            for (i, (start, end)) in sheet.lines().enumerate() {
-                parser.feed_line(start..end, i + 1 == n);
-            }
-            while parser.next().is_some() && attr::noted().is_none() {}
-        }
-    };
-}
-reads!(as_it_stands, noted);
-reads!(strict, noted_strict);
-
 /// Of each link, in the order of closing, whether an event of its destination spans a byte of no line.
 fn excepted(sheet: &Sheet, reading: u32) -> Vec<bool> {
-    CLOSED.with_borrow_mut(Vec::clear);
-    let text = sheet.for_the_rust();
-    attr::note();
-    match reading {
-        0 => as_it_stands(&text, sheet),
-        _ => strict(&text, sheet),
-    }
-    attr::forget();
     let fed = |p: usize| sheet.lines().any(|(start, end)| start <= p && p < end);
-    CLOSED.with_borrow(|closed| closed.iter().map(|spans| spans.iter().any(|span| !span.clone().all(fed))).collect())
+    let noted = noted::read(&sheet.for_the_rust(), &sheet.starts, &sheet.ends, reading);
+    noted.closed.iter().map(|spans| spans.iter().any(|span| !span.clone().all(fed))).collect()
 }
 
 /// What a call on line records leaves.
@@ -113,8 +76,8 @@ fn alike(sheet: &Sheet, other: &[u8], reading: u32, a: &Left, b: &Left, counts: 
         counts.short += 1;
         return Ok(());
     }
-    let Answer { code, place, events: count, .. } = a.answer;
-    if (code, place, count) != (b.answer.code, b.answer.place, b.answer.events) {
+    // All but the label bytes.
+    if a.answer != (Answer { labels: a.answer.labels, ..b.answer }) {
         return Err("the answers differ".to_string());
     }
     if (a.fragment.code, a.fragment.place, a.fragment.events, a.fragment.length) != (b.fragment.code, b.fragment.place, b.fragment.events, b.fragment.length) || a.out != b.out {

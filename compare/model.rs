@@ -15,7 +15,7 @@ pub struct Sizes {
 }
 
 fn refused(code: u32, place: usize) -> Answer {
-    Answer { code, place: place as u32, events: 0, labels: 0 }
+    Answer { code, place: place as u32, ..Answer::default() }
 }
 
 /// Questions 1 and 2.
@@ -59,6 +59,6 @@ pub fn answer(fed: usize, sizes: &Sizes, rust: &RustAnswer) -> Answer {
     } else if sizes.events / EVENT_NUMBERS < rust.events.len() {
         refused(code::EVENT_ROOM, 0)
     } else {
-        Answer { code: code::ACCEPTED, place: 0, events: rust.events.len() as u32, labels: rust.labels.len() as u32 }
+        Answer { code: code::ACCEPTED, place: 0, events: rust.events.len() as u32, labels: rust.labels.len() as u32, looks: rust.looks }
     }
 }

@@ -56,7 +56,8 @@ fn row(sheet: &Sheet, reading: u32, rust: &RustAnswer) -> Option<String> {
     let on_line = |events: &[Event]| format!("on {} ({}[])", events[0][LINE], events.iter().map(event).collect::<String>());
     let events: Vec<String> = rust.events.chunk_by(|a, b| a[LINE] == b[LINE]).map(on_line).collect();
     let events = if events.is_empty() { "[]".to_string() } else { format!("({})", events.join(" ++ ")) };
-    Some(format!("given {text} ({lines}[]) {reading} {events} {labels}"))
+    let row = format!("given {text} ({lines}[]) {reading} {events} {labels}");
+    Some(if rust.looks == 0 { row } else { format!("looking_at {} ({row})", rust.looks) })
 }
 
 /// How often a sheet of its sort is taken, one in so many: links and containers always, a sheet of one Str without a brace never.
@@ -81,7 +82,7 @@ pub fn print(seed: u64) {
     println!("-- Answers of the Rust: sheets of one line and of many, touching or with gaps, in both readings.");
     println!("use mathlib.Core.List.{{List, [], ◌∷◌, ◌++◌}}");
     println!("use Rattle.reading.specs.Events.{{event, homed, in_text}}");
-    println!("use Rattle.reading.specs.Sheets.{{Row, span, at_home, on, given, refused_at}}");
+    println!("use Rattle.reading.specs.Sheets.{{Row, span, at_home, on, given, looking_at, refused_at}}");
     println!();
     println!("unfoldable pub sampled : List Row");
     println!("sampled =");

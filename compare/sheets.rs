@@ -7,7 +7,7 @@ use crate::model::Sizes;
 use crate::random::{strings, Random};
 use crate::shapes::{any, behind_runs, names, shapes, SHAPES};
 use crate::sheet::Sheet;
-use crate::worked::{Worked, BEHIND_RUNS, BRACES, WORKED};
+use crate::worked::{Worked, TABLES};
 use crate::written::WRITTEN;
 use crate::{limits, lookup, model};
 use std::time::Instant;
@@ -44,8 +44,8 @@ const BRACED: &[Braced] = &[
 /// After how many sheets it is said how far a run is.
 const PROGRESS: u64 = 2_000_000;
 
-/// Sheets of the documents, against their own answers.
-fn answered(checker: &mut Checker, sheets: &[Worked], document: &str) -> bool {
+/// Sheets written out by hand, against their own answers.
+fn answered(checker: &mut Checker, sheets: &[Worked]) -> bool {
     for w in sheets {
         let sheet = w.sheet();
         let n = sheet.fed();
@@ -61,21 +61,20 @@ fn answered(checker: &mut Checker, sheets: &[Worked], document: &str) -> bool {
         let (events, labels) = checker.left();
         let given = events[..EVENT_NUMBERS * w.events.len()] == *w.events.as_flattened() && *labels == *w.labels;
         if called != Ok(w.answer()) || w.answer().code == code::ACCEPTED && !given {
-            checker.print(&sheet, w.reading, &sizes, &format!("{document} has {:?}: {called:?}", w.answer()));
+            checker.print(&sheet, w.reading, &sizes, &format!("by hand it is {:?}: {called:?}", w.answer()));
             return false;
         }
     }
     true
 }
 
-/// Document 01's own sheets, and those around braces by document 02.
+/// The sheets written out by hand.
 fn worked(checker: &mut Checker) -> bool {
-    let tables = [(WORKED, "document 01"), (BRACES, "document 02"), (BEHIND_RUNS, "document 02")];
-    if !tables.iter().all(|(some, by)| answered(checker, some, by)) {
+    if !TABLES.iter().all(|some| answered(checker, some)) {
         return false;
     }
-    let [in_01, braces, behind] = [WORKED, BRACES, BEHIND_RUNS].map(<[Worked]>::len);
-    println!("sheets: {in_01} worked through in document 01, {braces} around braces and {behind} behind closing runs by document 02");
+    let [worked, braces, behind, searches] = TABLES.map(<[Worked]>::len);
+    println!("sheets by hand: {worked} worked through, {braces} around braces, {behind} behind closing runs and {searches} of searches");
     true
 }
 

@@ -51,7 +51,7 @@ pub fn print() {
         Err(over) => println!("{over}"),
         Ok((expect, answer)) => {
             print_events(&expect.rust.events[..answer.events as usize]);
-            println!("{} {} {} {}", answer.code, answer.place, answer.events, answer.labels);
+            println!("{} {} {} {} {}", answer.code, answer.place, answer.events, answer.labels, answer.looks);
         }
     }
 }

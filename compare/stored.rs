@@ -1,8 +1,8 @@
 //! The sheets, with the Rust's answers, that the gate replays. A case is one line of numbers: the
 //! reading; the number of bytes of the text, and these; the number of starts, and these; the number
 //! of ends, and these; the lengths of the event, queue, opener and label rooms; the answer's code,
-//! place, events and label bytes; and of an accepted sheet the numbers of the events and the bytes
-//! of the labels.
+//! place, events, label bytes and opener records looked at; and of an accepted sheet the numbers of
+//! the events and the bytes of the labels.
 
 use crate::expect::Expect;
 use crate::lending::{Lending, Sort, SURE};
@@ -12,7 +12,7 @@ use crate::random::Random;
 use crate::rows::one_in;
 use crate::shapes::any;
 use crate::sheet::Sheet;
-use crate::worked::{BEHIND_RUNS, BRACES, WORKED};
+use crate::worked::TABLES;
 
 /// What the program that replays them has room for.
 const TEXT: usize = 1200;
@@ -57,6 +57,7 @@ fn case(sheet: &Sheet, reading: u32, lending: &Lending, expect: &Expect) -> bool
     counted(&mut out, &sheet.ends);
     listed(&mut out, &[events, queue, openers, labels]);
     listed(&mut out, &[answer.code, answer.place, answer.events, answer.labels]);
+    listed(&mut out, &[answer.looks]);
     if answer.code == code::ACCEPTED {
         listed(&mut out, expect.rust.events.as_flattened());
         listed(&mut out, &expect.rust.labels);
@@ -65,9 +66,9 @@ fn case(sheet: &Sheet, reading: u32, lending: &Lending, expect: &Expect) -> bool
     true
 }
 
-/// The sheets of document 01 and those around braces, each with enough room, and the largest that there is room for.
+/// The sheets written out by hand, each with enough room, and the largest that there is room for.
 fn named(expect: &mut Expect) {
-    for w in WORKED.iter().chain(BRACES).chain(BEHIND_RUNS) {
+    for w in TABLES.iter().copied().flatten() {
         let sheet = w.sheet();
         expect.ask(&sheet, w.reading);
         let answer = expect.answer(&sheet, w.reading, &expect.need.sizes(&SURE));

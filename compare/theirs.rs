@@ -3,6 +3,7 @@
 use crate::attr;
 use crate::events::{homed, in_labels, in_text, locate, Home, NOWHERE};
 use crate::mivurakol::{container, kind, Event, ENTER, EXIT};
+use crate::noted;
 
 /// Events, the bytes of the label room, and the first brace at which an attribute block stands: where
 /// there is one, nothing more is noted.
@@ -13,6 +14,8 @@ pub struct RustAnswer {
     pub brace: Option<usize>,
     /// The lone braces: the bare ones outside verbatim, to that one, at which no block stands.
     pub lone: Vec<usize>,
+    /// The opener records looked at, where no block stands.
+    pub looks: u64,
     /// Where the label of each link is.
     homes: Vec<Home>,
 }
@@ -24,6 +27,7 @@ impl RustAnswer {
         self.homes.clear();
         self.brace = None;
         self.lone.clear();
+        self.looks = 0;
     }
 }
 
@@ -149,6 +153,7 @@ pub fn read(text: &str, starts: &[usize], ends: &[usize], reading: u32, rust: &m
     }
     let stands = |&brace: &usize| block(text, starts, ends, brace);
     let ruled = rust.lone.is_sorted() && !rust.lone.iter().any(stands) && rust.brace.iter().all(stands);
+    rust.looks = if rust.brace.is_none() { noted::read(text, starts, ends, reading).looks } else { 0 };
     let RustAnswer { brace, lone, .. } = rust;
     assert!(ruled, "document 02 and the Rust differ: {text:?}, lines from {starts:?} to {ends:?}, a block at {brace:?}, none at {lone:?}");
 }

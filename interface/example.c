@@ -71,7 +71,8 @@ int main(void)
             print_label(text, e);
         putchar('\n');
     }
-    printf("code %u, place %u, %u events, %u label bytes\n", (unsigned)a.code, (unsigned)a.place, (unsigned)a.events, (unsigned)a.labels);
+    printf("code %u, place %u, %u events, %u label bytes, %llu openers looked at\n", (unsigned)a.code, (unsigned)a.place, (unsigned)a.events,
+           (unsigned)a.labels, (unsigned long long)a.looks);
     if (a.code != MIVURAKOL_CODE_ACCEPTED || a.events != 11 || a.labels != 12 || memcmp(labels, "left.txtdoor", 12) != 0)
         return 1;
     return pack_events(a.events) && print_fragment() ? 0 : 1;

@@ -123,8 +123,8 @@ extern "C" {
  * lends MIVURAKOL_PACKED_ROOM bytes, or MIVURAKOL_UNPACKED_ROOM events. */
 #define MIVURAKOL_CODE_PACKED_ROOM 13
 
-/* The answer. A refusal has events and labels 0, and place 0 unless said. After the codes from
- * MIVURAKOL_CODE_READING to MIVURAKOL_CODE_OPENER_ROOM no room is written. After a later code
+/* The answer. A refusal has events, labels and looks 0, and place 0 unless said. After the codes
+ * from MIVURAKOL_CODE_READING to MIVURAKOL_CODE_OPENER_ROOM no room is written. After a later code
  * all four are zero. After MIVURAKOL_CODE_ACCEPTED, events and label bytes stand from the front,
  * and all else is zero. */
 typedef struct {
@@ -132,6 +132,9 @@ typedef struct {
     uint32_t place;
     uint32_t events; /* how many */
     uint32_t labels; /* bytes used of the label room */
+    /* How long the search got: the opener records looked at for the newest that a token closes, from
+     * the newest back to that one, or all. At most N (N - 1) / 2, N the sum of the line lengths. */
+    uint64_t looks;
 } mivurakol_answer;
 
 /* A line of a text: from start to before end. */

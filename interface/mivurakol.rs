@@ -124,7 +124,7 @@ pub mod code {
     pub const PACKED_ROOM: u32 = 13;
 }
 
-/// What is answered of a sheet. A refusal has events and labels 0.
+/// What is answered of a sheet. A refusal has events, labels and looks 0.
 #[repr(C)]
 #[derive(Clone, Copy, Debug, Default, PartialEq, Eq)]
 pub struct Answer {
@@ -136,6 +136,9 @@ pub struct Answer {
     pub events: u32,
     /// How many bytes of labels stand in the label room.
     pub labels: u32,
+    /// How long the search got: the opener records looked at for the newest that a token closes, from
+    /// the newest back to that one, or all. At most N (N - 1) / 2, N being the sum of the line lengths.
+    pub looks: u64,
 }
 
 /// What is answered of a fragment. A refusal has events, labels and length 0.

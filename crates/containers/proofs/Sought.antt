@@ -1,10 +1,11 @@
 -- The close of each sort, and a token tried as a closer, then as an opener, then alone.
-use Rattle.std.specs.Prelude.{None, Option, Some}
-use Prim.Native.Nat.{ℕ, ◌+◌, ◌≤◌, ◌<◌}
+use Rattle.std.specs.Prelude.{None, Option, Some, unwrap_or}
+use Prim.Native.Nat.{ℕ, ◌+◌, ◌-◌, ◌≤◌, ◌<◌}
 use mathlib.Core.Path.{◌≡◌, refl, sym, ap, ◌∙◌, subst}
 use mathlib.Core.List.{List, [], ◌∷◌}
 use mathlib.Core.Bool.{Bool, true, false}
 use native.Mathlib.Omega.{arith}
+use Rattle.std.proofs.Common.{rules}
 use lib.ListN.{length}
 use Rattle.lex.specs.declared.lex.Cursor.{Cursor}
 use Rattle.lex.specs.declared.lex.Token.{Token}
@@ -22,7 +23,9 @@ use Rattle.reading.specs.declared.Sort.TheVariants as sort
 use Rattle.reading.specs.Machine.{View, Sheet, State, Turn, Here, with_openers}
 use Rattle.reading.specs.Tokens.{closing_of}
 use Rattle.reading.specs.Containers.{seek, may_close, close_as, opens_or, tried, container}
+use Rattle.reading.specs.Looks.{looked}
 use Rattle.reading.specs.Naming.{Names, Named}
+use Rattle.reading.proofs.Looks.{looked-left, looked-all}
 use Rattle.reading.proofs.Named.{named-seek}
 use Rattle.reading.proofs.Places.{peeked-taken, peek-sound, peek-place}
 use Rattle.rooms.specs.declared.Parser.{Parser}
@@ -30,6 +33,7 @@ use Rattle.rooms.specs.declared.span.Span.{Span}
 use Rattle.rooms.specs.Records.{opener_at, opens, place}
 use Rattle.rooms.specs.Standing.{here}
 use Rattle.rooms.specs.Steps.{state}
+use Rattle.rooms.proofs.Changing.{openers_long}
 use Rattle.rooms.proofs.Rows.{stack-length}
 use Rattle.rooms.proofs.Search.{found_at, place_none}
 use Rattle.containers.specs.Ready.{closable}
@@ -120,6 +124,26 @@ module _ (v : View) (h : Here) (s : State) (o : List ℕ) (mark : Option Closer)
       pub sought-not : may_close v h s x ≡ false → None ≡ closable v h s (seek mark (opens n o))
       unfolding closable
       sought-not t = sym (rw (sought, t, closable))
+
+-- how many are looked at: all but those older than the one that is found, or all
+looked-found : (c : Option Closer) (os : List Opener) (i : ℕ) → place (seek c os) ≡ Some i → looked (Some c) os + i ≡ length os
+unfolding place
+looked-found c os i e = go (seek c os) refl e
+  where
+    go : (found : List Opener) → seek c os ≡ found → place found ≡ Some i → looked (Some c) os + i ≡ length os
+    go [] is e = cc
+    go (o ∷ older) is e = let z : length older ≡ i = cc in omega (arith, looked-left c os o older is, z)
+
+looked-by : (c : Option Closer) (os : List Opener) (f : Option ℕ) → f ≡ place (seek c os) → length os - unwrap_or f 0 ≡ looked (Some c) os
+looked-by c os None e = let z : unwrap_or {T = ℕ} None 0 ≡ 0 = search rules in omega (arith, z, looked-all c os (place_none (seek c os) (sym e)))
+looked-by c os (Some i) e = let z : unwrap_or {T = ℕ} (Some i) 0 ≡ i = search rules in omega (arith, z, looked-found c os i (sym e))
+
+pub looked-count : (c : Option Closer) (p : Parser) (f : Option ℕ) → f ≡ place (seek c (state p).openers) → (d : ℕ) → d ≡ unwrap_or f 0
+    → p.at.openers - d ≡ looked (Some c) (state p).openers
+looked-count c p f isf d isd =
+    ap (λ (n : ℕ). n - d) (sym (openers_long p))
+    ∙ ap (λ (n : ℕ). length (state p).openers - n) isd
+    ∙ looked-by c (state p).openers f isf
 
 -- what the answer of the trial says
 module _ (v : View) (h : Here) (s : State) where

@@ -5,8 +5,10 @@ use Rattle.lex.specs.Sound.{Sound}
 use Rattle.reading.specs.declared.Sort.{Sort}
 use Rattle.reading.specs.declared.Opener.{Opener}
 use Rattle.reading.specs.Events.{str, queue_numbers, opener_numbers, largest}
-use Rattle.reading.specs.Machine.{View, State, Turn, Here, put, with_openers}
-use Rattle.reading.specs.Containers.{closes_span, may_close}
+use Rattle.reading.specs.declared.Marks.{Marks}
+use Rattle.reading.specs.Machine.{View, Sheet, State, Turn, Here, put, with_openers}
+use Rattle.reading.specs.Containers.{closes_span, may_close, container}
+use Rattle.reading.specs.Looks.{look}
 use Rattle.reading.specs.Naming.{Named}
 use Rattle.rooms.specs.declared.Status.{Status}
 use Rattle.rooms.specs.declared.Parser.{Parser}
@@ -30,6 +32,10 @@ pub record LabelRoom (p : Parser) : Type 0 where
   pub room : length p.labels.now < 2 ^ 32
   pub links : p.at.links.0 + 1 < 2 ^ 32
 
+-- all openers can be counted once more
+abbrev pub Countable : Parser → Type 0
+Countable p = p.at.looks + p.at.openers < 2 ^ 64
+
 -- a bracket that is taken along, behind the Str of its `]`
 abbrev pub along_with : View → Span → Sort → ℕ → Status → State → Turn
 along_with v h sort span p s =
@@ -46,3 +52,7 @@ span_closed v h image o s = let p = peek_of v.bytes h.cursor in closes_span v h 
 unfoldable pub closable : View → Here → State → List Opener → Option ℕ
 closable v h s [] = None
 closable v h s (o ∷ os) = elim (may_close v h s o) [ true ↦ Some (length os) | false ↦ None ]
+
+-- a token that seeks, with what it looks at
+abbrev pub container_looking : Sheet → View → Here → Marks → State → Turn
+container_looking x v h m s = container x v h m (look (Some m.closes) s)

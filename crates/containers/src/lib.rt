@@ -12,10 +12,11 @@ ghost use Rattle.reading.specs.Machine.{Rules};
 ghost use Rattle.reading.specs.Naming.{Names, Named};
 ghost use Rattle.reading.specs.Tokens.{closing_of};
 ghost use Rattle.reading.specs.Containers as spec;
+ghost use Rattle.rooms.specs.Records.{place};
 ghost use Rattle.rooms.specs.Standing.{viewed, here, Fits};
 ghost use Rattle.rooms.specs.Steps.{state, Stepped, Changed, Queued, Room, staying};
 ghost use Rattle.links.specs.Linked.{sheet_of};
-ghost use Rattle.containers.specs.Ready.{Ready, LabelRoom, along_with, span_closed, closable};
+ghost use Rattle.containers.specs.Ready.{Ready, LabelRoom, Countable, along_with, span_closed, closable, container_looking};
 
 use reading::{Closer, DelimEventKind, Marks, NOWHERE, Opener, Pair, Sort, kind};
 use rooms::{Parser, Span, View};
@@ -163,16 +164,24 @@ fn close_as(p: &mut Parser, text: &[u8], v: &View, h: Span, o: Opener)
     }
 }
 
-// The opener that a token closes: the newest that it can close is sought, and only that one is
+// The opener that a token closes: only the one that is found, the newest that it can close, is
 // tried.
 #[tactic(auto, unfolding(crate::specs::Ready::closable))]
-fn tried(p: &Parser, v: &View, h: Span, closes: Option<Closer>) -> Option<usize>
+fn tried(
+    p: &Parser,
+    v: &View,
+    h: Span,
+    closes: Option<Closer>,
+    found: Option<usize>,
+) -> Option<usize>
     requires from_in_bounds { h.from ≤ length v.now.bytes.now }
     requires named { Named (state p.now).openers p.now.at.events }
+    requires found { found ≡ place (spec.seek closes (state p.now).openers) }
+    requires found_in { IfSome found (λ i. i < p.now.at.openers) }
     ensures value { result ≡ closable (viewed v.now) (here h p.now.at) (state p.now) (spec.seek closes (state p.now).openers) }
     ensures within { IfSome result (λ i. i < p.now.at.openers) }
 {
-    let i = p.seek(p.at.openers, closes)?;
+    let i = found?;
     if may_close(p, v, h, p.opener_at(i)) {
         return Some(i);
     }
@@ -180,13 +189,18 @@ fn tried(p: &Parser, v: &View, h: Span, closes: Option<Closer>) -> Option<usize>
 }
 
 // A token closes an opener, with which all newer ones are discarded; or opens; or is what it is
-// alone.
+// alone. The openers that are looked at are counted: those from the newest back to the one that is
+// found, or all.
 pub fn parse_container(p: &mut Parser, text: &[u8], v: &View, h: Span, k: Marks)
     requires ready { Ready (viewed v.now) h p.old }
     requires label_room { LabelRoom p.old }
-    ensures { (rules : Rules) → Stepped p.old p.new (spec.container (sheet_of rules text.now p.old.labels.now) (viewed v.now) (here h p.old.at) k) }
+    requires countable { Countable p.old }
+    ensures { (rules : Rules) → Stepped p.old p.new (container_looking (sheet_of rules text.now p.old.labels.now) (viewed v.now) (here h p.old.at) k) }
 {
-    let Some(i) = tried(p, v, h, k.closes) else {
+    let n = p.at.openers;
+    let found = p.seek(n, k.closes);
+    p.at.looks += (n - found.unwrap_or(0)) as u64;
+    let Some(i) = tried(p, v, h, k.closes, found) else {
         opens_or(p, v, h, k);
         return;
     };

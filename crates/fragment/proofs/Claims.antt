@@ -147,7 +147,7 @@ module _ (text : List ℕ) (ls : List Line) (reading : ℕ) (rooms : Rooms) wher
   shows : (out : List ℕ) (f : Fragmented) → f ≡ fragmented text ls reading rooms out → f.answer.code ≡ 0 → Shows text ls reading rooms f
   shows out = by-accepted out (Shows text ls reading rooms)
       (λ z. let k = accepted text ls reading rooms z in
-      record { accepted = record { whole = k.whole; count = k.count; handed = k.handed }; faithful = faithful text es k.whole.walked })
+      record { accepted = record { whole = k.whole; count = k.count; handed = k.handed; search = omega arith }; faithful = faithful text es k.whole.walked })
 
   -- and each event has the home and the link number that its kind has
   homed-so : (out : List ℕ) (f : Fragmented) → f ≡ fragmented text ls reading rooms out → f.answer.code ≡ 0

@@ -15,10 +15,11 @@ use Rattle.reading.proofs.Braces.{links-line, links-steps}
 use Rattle.reading.proofs.Feeding as feeding
 use Rattle.reading.proofs.Stepping.{Held}
 use Rattle.reading.proofs.Feeding.{Rising, Apart, view-long, view-shows, begun-held}
+use Rattle.reading.proofs.Counting.{Counts, half-more, lines-count, steps-count}
 use Rattle.reading.proofs.Stopping.{moment-held}
 use Rattle.reading.proofs.Theorems.{rising, free, front, back, halves, behind}
 use Rattle.rooms.specs.declared.Parser.{Parser}
-use Rattle.rooms.specs.Steps.{turn}
+use Rattle.rooms.specs.Steps.{state, turn}
 use Rattle.inline.specs.Asks.{Amid, Lined, Sheeted}
 use Rattle.inline.specs.Lines.{none}
 
@@ -47,6 +48,7 @@ pub record Begins (text : List ℕ) (v : View) (p : Parser) : Type 0 where
   pub stack : (count + length v.bytes) * 4 ≤ length p.openers.now
   pub label_room : length p.labels.now < 2 ^ 32
   pub links : p.at.links.0 + length v.bytes ≤ 4194304
+  pub looks : Counts (count + p.at.cursor.pos) (state p)
 
 module _ (text : List ℕ) (reading : ℕ) (q o l : List ℕ) (ls : List Line) (w : Sheeted text ls q o l) (i : ℕ) where
   abbrev x : Sheet
@@ -64,6 +66,14 @@ module _ (text : List ℕ) (reading : ℕ) (q o l : List ℕ) (ls : List Line) (
 
   pub before-links : given.links.0 ≤ total (take i ls)
   before-links = omega (arith, links-lines x text 0 (take i ls) (front text i ls 0 up) start)
+
+  before-count : Counts (total (take i ls)) given
+  before-count e =
+      omega (
+        arith,
+        lines-count x (take i ls) 0 0 start (front text i ls 0 up) (feeding.start-stood Any text x) (λ z. omega arith) e,
+        half-more (0 + total (take i ls)) (total (take i ls)) (omega arith),
+      )
 
   pub before-few : total (take i ls) ≤ total ls
   before-few = omega (arith, halves i ls)
@@ -119,6 +129,9 @@ module _ (text : List ℕ) (reading : ℕ) (q o l : List ℕ) (ls : List Line) (
           room = rw isq (omega (arith, long, next-total, w.room));
           stack = rw iso (omega (arith, long, next-total, w.stack));
           label_room = rw isl w.label_room;
+          looks = subst (λ (a : Turn). Counts (total (take i ls) + a.cursor.pos) a.state) (sym same)
+              (steps-count x v (total (take i ls)) next-shows k (begun x v given) line-held
+              (λ e. omega (arith, before-count e, half-more (total (take i ls)) (total (take i ls) + 0) (omega arith))));
           links = omega (arith, ap (λ (a : Turn). a.state.links.0) same, links-steps k x v (begun x v given), before-links, most, long, next-total, few, w.small);
         }
 

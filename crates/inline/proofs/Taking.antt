@@ -6,6 +6,7 @@ use mathlib.Core.List.{List}
 use mathlib.Core.Logic.{inl, inr}
 use native.Mathlib.Omega.{arith}
 use lib.ListN.{length}
+use Rattle.lex.specs.declared.lex.Kind.{Kind}
 use Rattle.lex.specs.declared.lex.Kind.TheVariants as kinds
 use Rattle.lex.specs.declared.lex.Token.{Token}
 use Rattle.lex.specs.declared.lex.Lexed.{Lexed}
@@ -13,15 +14,16 @@ use Rattle.lex.specs.Lexer.{next_of}
 use Rattle.reading.specs.declared.Last.{Last}
 use Rattle.reading.specs.declared.Place.{Place}
 use Rattle.reading.specs.declared.Role.{Role}
-use Rattle.reading.specs.declared.Role.TheVariants as roles
 use Rattle.reading.specs.Events.{str}
 use Rattle.reading.specs.declared.Verbatim.{Verbatim}
-use Rattle.reading.specs.Machine.{View, Sheet, Here, rules_of, put}
-use Rattle.reading.specs.Tokens.{role_of, plain}
+use Rattle.reading.specs.Machine.{View, Sheet, State, Here, rules_of, put, looking}
+use Rattle.reading.specs.Tokens.{role_of}
+use Rattle.reading.specs.Looks.{Seeks, seeks_of, looked, look}
 use Rattle.reading.specs.Containers.{tried, opens_or}
 use Rattle.reading.specs.Verbatim.{in_verbatim, ended_at}
-use Rattle.reading.specs.Reading.{outside, by_place, here_at, on_token, step, unasked}
+use Rattle.reading.specs.Reading.{outside, outside_looking, by_place, here_at, on_token, step, unasked}
 use Rattle.reading.proofs.Ends.{seek-none}
+use Rattle.reading.proofs.Looks.{looking-none, seeks-role}
 use Rattle.reading.proofs.Places.{HereOk, here-ok}
 use Rattle.rooms.specs.declared.Parser.{Parser}
 use Rattle.rooms.specs.declared.span.Span.{Span}
@@ -103,16 +105,23 @@ module _ (text : List ℕ) (reading : ℕ) (v : View) (p : Parser) (b : Before v
         ∙ sym (ap (λ (y : Option Token). on_token x v (turn p) y a.cursor) ist)
         ∙ by_token
 
-    pub event-outside : p.at.inside ≡ None → (y : Role) → y ≡ role_of t.kind → outside x v there y (state p) ≡ step x v (turn p)
+    pub event-outside : p.at.inside ≡ None → (t.kind ≡ kinds.Text → ⊥) → (y : Role) → y ≡ role_of t.kind
+        → outside_looking x v there y (state p) ≡ step x v (turn p)
     unfolding by_place
-    event-outside e y isy = ap (λ (z : Role). outside x v there z (state p)) isy ∙ placed None e
+    event-outside e n y isy =
+        ap (λ (z : Role). outside_looking x v there z (state p)) isy
+        ∙ ap (λ (k : Seeks). outside x v there (role_of t.kind) (look k (state p))) (sym (seeks-role v there t.kind n))
+        ∙ placed None e
 
     -- text is what it is alone
     pub event-text : p.at.inside ≡ None → t.kind ≡ kinds.Text → record { cursor = a.cursor; state = put v str h.from h.to (state p) } ≡ step x v (turn p)
-    unfolding tried opens_or outside
+    unfolding tried opens_or outside by_place seeks_of looked
     event-text e k =
-        sym (rw (seek-none (state p).openers) refl)
-        ∙ event-outside e (roles.Other (plain str)) (sym (text-role t.kind k))
+        ap (λ (s : State). record { cursor = a.cursor; state = put v str h.from h.to s }) (sym (looking-none (state p)))
+        ∙ sym (rw (seek-none (state p).openers) refl)
+        ∙ ap (λ (r : Role). outside x v there r (looking 0 (state p))) (sym (text-role t.kind k))
+        ∙ ap (λ (z : Kind). outside x v there (role_of t.kind) (look (seeks_of v there z) (state p))) (sym k)
+        ∙ placed None e
 
     pub event-verbatim : (w : Verbatim) → p.at.inside ≡ Some w → in_verbatim (rules_of reading) v there t w (state p) ≡ step x v (turn p)
     unfolding by_place

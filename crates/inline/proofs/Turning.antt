@@ -9,7 +9,7 @@ use mathlib.Core.Path.{◌≡◌, refl, sym, ap, ◌∙◌, subst}
 use mathlib.Core.List.{List}
 use mathlib.Core.Bool.{true, false}
 use native.Mathlib.Nat.{sub-zero}
-use mathlib.Core.Logic.{inl, inr}
+use mathlib.Core.Logic.{inr}
 use native.Mathlib.Omega.{arith}
 use borrow.Author.Tests.{leb-true, leb-false}
 use lib.ListN.{length, get_or}
@@ -24,6 +24,7 @@ use Rattle.reading.proofs.Links.{links-step}
 use Rattle.reading.proofs.Backticks.{Shows}
 use Rattle.reading.proofs.Stepping.{Held, met}
 use Rattle.reading.proofs.Feeding.{step-on}
+use Rattle.reading.proofs.Counting.{Counts, half-small, step-counts}
 use Rattle.reading.proofs.Stopping.{step-off}
 use Rattle.reading.proofs.Spans.{Any}
 use Rattle.reading.proofs.Theorems.{step_end, steps-still}
@@ -116,6 +117,7 @@ pub record Turns (text : List ℕ) (v : View) (reading : ℕ) (p₀ p : Parser) 
   pub stack : (count + length v.bytes) * 4 ≤ length p₀.openers.now
   pub label_room : length p₀.labels.now < 2 ^ 32
   pub links : p.at.links.0 + (length v.bytes - k) ≤ 4194304
+  pub looks : Counts (count + p.at.cursor.pos) (state p)
   pub lent : Lent p₀ p
 
 module _ (text : List ℕ) (v : View) (reading : ℕ) (p₀ : Parser) where
@@ -137,6 +139,7 @@ module _ (text : List ℕ) (v : View) (reading : ℕ) (p₀ : Parser) where
         stack = w.stack;
         label_room = w.label_room;
         links = omega (arith, w.links);
+        looks = w.looks;
         lent = record { queue = refl; openers = refl; labels = refl; queue_length = refl; openers_length = refl; labels_length = refl };
       }
 
@@ -160,6 +163,7 @@ module _ (text : List ℕ) (v : View) (reading : ℕ) (p₀ : Parser) where
           ended = λ is. good-ended text _ _ p p.at.inside is f.good;
           label_room = omega (arith, t.label_room, t.lent.labels_length);
           links = omega (arith, t.links, some);
+          looks = omega (arith, t.looks on.0, m, half-small (t.count + p.at.cursor.pos) (omega (arith, on.1, t.few)), on.1, t.few);
         }
 
     -- what it gives
@@ -178,6 +182,7 @@ module _ (text : List ℕ) (v : View) (reading : ℕ) (p₀ : Parser) where
           stack = t.stack;
           label_room = t.label_room;
           links = omega (arith, t.links, some, ap (λ (a : Turn). a.state.links.0) is, links-step x v (turn p));
+          looks = subst (λ (a : Turn). Counts (t.count + a.cursor.pos) a.state) (sym is) (step-counts x v t.count t.shows (turn p) none t.held t.looks);
           lent = lent-then p₀ p r t.lent st.lent;
         }
       where

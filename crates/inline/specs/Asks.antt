@@ -30,6 +30,7 @@ pub record Before (v : View) (p : Parser) : Type 0 where
   pub ended : p.at.inside ≡ None → Ended p
   pub label_room : length p.labels.now < 2 ^ 32
   pub links : p.at.links.0 + 1 < 2 ^ 32
+  pub looks : p.at.looks + p.at.openers < 2 ^ 64
 
 -- what a status and the rooms stand for. The cursor is open: it is of no line any more
 pub record StandsFor (r : Status) (q o l : List ℕ) (s : State) : Type 0 where

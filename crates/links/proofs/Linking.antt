@@ -49,6 +49,7 @@ module _ (rules : Rules) (text : List ℕ) (v : View) (h : Span) (t : Target) (x
         fits = fits;
         links = record { 0 = p.at.links.0 + 1 };
         refused = s.refused;
+        looks = s.looks;
       }
 
   -- p₁ is the parser with the label built, p₄ the one with the queue changed

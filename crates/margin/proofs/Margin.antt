@@ -28,7 +28,7 @@ use Rattle.reading.proofs.Locating.{located-length}
 use Rattle.reading.proofs.Like.{AllLike, like-length, like-at, like-other, like-drained, same-events}
 use Rattle.reading.proofs.Telling.{bytes_in, bytes-text, bytes-labels, bytes-none, part-grown, Tells, tells-none}
 use Rattle.reading.proofs.Sides.{Side}
-use Rattle.reading.proofs.Margins.{sheet-same, sides, ahead-from}
+use Rattle.reading.proofs.Margins.{sheet-same, sides, looks-same, ahead-from}
 use Rattle.reading.proofs.Theorems.{up, homes}
 use Rattle.rooms.proofs.Rows.{rows_at}
 use Rattle.listing.specs.Listing.{event_at, records}
@@ -125,6 +125,7 @@ module _ (t u : List ℕ) (ls : List Line) (reading : ℕ) (rooms : Rooms) (agre
         code = refl;
         place = refl;
         count = refl;
+        looks = refl;
         events = refl;
         labels = λ i h. absurd (omega (arith, h));
         refused = λ n. refl;
@@ -141,6 +142,12 @@ module _ (t u : List ℕ) (ls : List Line) (reading : ℕ) (rooms : Rooms) (agre
     side : Side t u K One (read x ls) (read y ls)
     side =
         sides t u agree.long K One (λ o n. o n) (rules_of reading) x.block (label_room rooms.labels) (label_room rooms.labels) ls (up x ls fed) agree.bytes
+        (ahead-from t u agree.long ls agree.bytes (destinations x ls) 0 (destinations x ls)
+        (λ j n i. ap (λ (k : ℕ). get_or (destinations x ls) k []) (omega (arith, i))))
+
+    looks : (read y ls).looks ≡ (read x ls).looks
+    looks =
+        looks-same t u agree.long K One (λ o n. o n) (rules_of reading) x.block (label_room rooms.labels) (label_room rooms.labels) ls (up x ls fed) agree.bytes
         (ahead-from t u agree.long ls agree.bytes (destinations x ls) 0 (destinations x ls)
         (λ j n i. ap (λ (k : ℕ). get_or (destinations x ls) k []) (omega (arith, i))))
 
@@ -177,7 +184,7 @@ module _ (t u : List ℕ) (ls : List Line) (reading : ℕ) (rooms : Rooms) (agre
           ∙ sym ((like-at T none i es fs alike).homes.bytes k)
           ∙ sym (looked _ t (read x ls).labels _ (home_of (get_or es i nothing)) (homed-at _ _ i es here h))
 
-      handed : C (handed_out ls es (read x ls).labels rooms) (handed_out ls fs (read y ls).labels rooms)
+      handed : C (handed_out ls es (read x ls).labels (read x ls).looks rooms) (handed_out ls fs (read y ls).labels (read y ls).looks rooms)
       unfolding handed_out
       handed =
           rw (many, handed_out)
@@ -187,6 +194,7 @@ module _ (t u : List ℕ) (ls : List Line) (reading : ℕ) (rooms : Rooms) (agre
             code = refl;
             place = refl;
             count = many;
+            looks = looks;
             events = ap (map unhomed) (records-of ls fs rooms.events)
                 ∙ unhomed-same T ls es fs alike
                 ∙ sym (ap (map unhomed) (records-of ls es rooms.events));
@@ -195,7 +203,7 @@ module _ (t u : List ℕ) (ls : List Line) (reading : ℕ) (rooms : Rooms) (agre
                 ∙ label-same i h (subst (λ (e : Event). e.home ≡ home_labels → K e.link.0) (event-of ls es rooms.events i h) k)
                 ∙ sym (ap (λ (e : Event). label_in t (filled (read x ls).labels rooms.labels) e) (event-of ls es rooms.events i h));
             refused = λ n. absurd (n refl);
-            same = λ o. rw (same-events es fs (like-other (λ h k z. z.all o) es fs alike), side.labels o e f);
+            same = λ o. rw (same-events es fs (like-other (λ h k z. z.all o) es fs alike), side.labels o e f, looks);
           })
           (λ b. refused-same 9 0 (cleared rooms) (omega arith)))
 
@@ -259,16 +267,16 @@ module _ (t u : List ℕ) (ls : List Line) (reading : ℕ) (rooms : Rooms) (agre
   abbrev Blocked : Outcome → Outcome → Type 0
   Blocked o p = o.answer.code ≡ 7 → p ≡ o
 
-  handed-other : (es : List Event) (labels : List ℕ) → (handed_out ls es labels rooms).answer.code ≡ 7 → ⊥
+  handed-other : (es : List Event) (labels : List ℕ) (looks : ℕ) → (handed_out ls es labels looks rooms).answer.code ≡ 7 → ⊥
   unfolding handed_out
-  handed-other es labels =
+  handed-other es labels looks =
       choose (λ (o : Outcome). o.answer.code ≡ 7 → ⊥) (leb (length es) (length rooms.events / event_numbers)) _ _ (λ b e. omega (arith, e)) (λ b e. omega (arith, e))
 
   judged-blocked : (r : Option Place) (f g : Bool) → Blocked (judged ls r f (read x ls) rooms) (judged ls r g (read z ls) rooms)
   unfolding judged
   judged-blocked (Some p) f g e = refl
   judged-blocked None false g e = absurd (omega (arith, e))
-  judged-blocked None true g e = absurd (handed-other _ _ e)
+  judged-blocked None true g e = absurd (handed-other _ _ _ e)
 
   pub blocked : Blocked (outcome t ls reading rooms) (outcome u ls reading rooms)
   blocked =

@@ -26,6 +26,7 @@ pub record Common (t u : List ℕ) (Within : ℕ → Type 0) (o p : Outcome) : T
   pub code : p.answer.code ≡ o.answer.code
   pub place : p.answer.place ≡ o.answer.place
   pub count : p.answer.events ≡ o.answer.events
+  pub looks : p.answer.looks ≡ o.answer.looks
   pub events : map unhomed (records p.answer.events p.rooms.events) ≡ map unhomed (records o.answer.events o.rooms.events)
   pub labels : (i : ℕ) → i < o.answer.events → let e = event_at o.rooms.events i in
       (e.home ≡ home_labels → Within e.link.0) → label_in u p.rooms.labels (event_at p.rooms.events i) ≡ label_in t o.rooms.labels e

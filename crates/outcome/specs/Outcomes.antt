@@ -16,7 +16,7 @@ abbrev pub kept : ℕ → List ℕ → List ℕ
 kept n room = take n room ++ replicate (length room - n) 0
 
 -- so many events and label bytes stay, and all else is zero
-abbrev pub accepts : ℕ → ℕ → Rooms → Outcome
-accepts count bytes rooms =
-    outcome_of (acceptance count bytes) (kept (count * event_numbers) rooms.events) (zeros rooms.queue) (zeros rooms.openers)
+abbrev pub accepts : ℕ → ℕ → ℕ → Rooms → Outcome
+accepts count bytes looks rooms =
+    outcome_of (acceptance count bytes looks) (kept (count * event_numbers) rooms.events) (zeros rooms.queue) (zeros rooms.openers)
     (kept bytes rooms.labels)

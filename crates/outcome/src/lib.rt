@@ -37,13 +37,13 @@ impl<'e, 'q, 'o, 'l> Rooms<'e, 'q, 'o, 'l> {
         self.labels.fill(0);
     }
 
-    // So many events and label bytes stay; all else is zero.
-    pub fn accept(&mut self, count: usize, bytes: usize) -> Answer
+    // So many events and label bytes stay; all else is zero. So many opener records were looked at.
+    pub fn accept(&mut self, count: usize, bytes: usize, looks: u64) -> Answer
         requires event_numbers_in_bounds { count * event_numbers ≤ length self.old.events.now }
         requires count_bound { count < 2 ^ 32 }
         requires bytes_in_bounds { bytes ≤ length self.old.labels.now }
         requires bytes_bound { bytes < 2 ^ 32 }
-        ensures value { left_by result self.new ≡ accepts count bytes (held self.old) }
+        ensures value { left_by result self.new ≡ accepts count bytes looks (held self.old) }
         ensures lent { Lent self.old self.new }
     {
         let records = count * EVENT_NUMBERS;
@@ -57,6 +57,7 @@ impl<'e, 'q, 'o, 'l> Rooms<'e, 'q, 'o, 'l> {
             place: 0,
             events: handed,
             labels: used,
+            looks,
         }
     }
 }

@@ -19,31 +19,46 @@ use Rattle.reading.specs.declared.Sort.TheVariants as sort
 use Rattle.reading.specs.declared.Last.{Last}
 use Rattle.reading.specs.Events.{str}
 use Rattle.reading.proofs.Choose.{choose}
-use Rattle.reading.specs.Machine.{View, Sheet, put}
+use Rattle.reading.specs.Machine.{View, Sheet, State, Turn, put, looking}
 use Rattle.reading.specs.Tokens.{plain, bracket, closed_by, both_ways, role_of}
 use Rattle.reading.specs.Closers.{number}
-use Rattle.reading.specs.Containers.{container, tried, opens_or, open_as, may_open}
+use Rattle.reading.specs.Looks.{looked, look}
+use Rattle.reading.specs.Containers.{tried, opens_or, open_as, may_open}
 use Rattle.reading.specs.Verbatim.{taken}
 use Rattle.reading.proofs.Ends.{seek-none}
+use Rattle.reading.proofs.Looks.{looking-none}
 use Rattle.reading.proofs.Places.{Taken, peeked-taken, peek-sound, peek-place}
 use Rattle.rooms.specs.declared.Parser.{Parser}
 use Rattle.rooms.specs.declared.span.Span.{Span}
 use Rattle.rooms.specs.Standing.{here}
-use Rattle.rooms.specs.Steps.{state, staying, Changed, Queued}
-use Rattle.rooms.proofs.Changing.{changed-as, queued-as}
+use Rattle.rooms.specs.Steps.{state, staying, Queued}
+use Rattle.rooms.proofs.Changing.{queued-as, queued-from, openers_long}
 use Rattle.verbatim.specs.Opened.{Dollars}
-use Rattle.containers.specs.Ready.{Ready}
+use Rattle.containers.specs.Ready.{Ready, container_looking}
 use Rattle.outside.specs.Outside.{Ended, EndedBy}
 
-pub queued_alone : (x : Sheet) (v : View) (h : Span) (p r : Parser) → Queued p r (staying p (put v str h.from h.to))
-    → Queued p r (container x v (here h p.at) (plain str))
-unfolding tried opens_or
-queued_alone x v h p r c = queued-as p r _ c _ (rw (seek-none (state p).openers))
+-- it looks at all openers
+pub counted_all : (p : Parser) (f : State → Turn) → f (looking p.at.openers (state p)) ≡ f (look (Some None) (state p))
+unfolding looked
+counted_all p f = ap (λ (n : ℕ). f (looking n (state p))) (sym (openers_long p))
 
-pub changed_opening : (x : Sheet) (v : View) (h : Span) (p r : Parser) → Changed p r (staying p (open_as v (here h p.at) sort.Span))
-    → Changed p r (container x v (here h p.at) bracket)
+pub queued_counted : (p u r : Parser) (f : State → Turn) → Queued u r f → u.queue ≡ p.queue → u.openers ≡ p.openers → u.labels ≡ p.labels
+    → u.at.openers ≡ p.at.openers → u.at.labels ≡ p.at.labels → state u ≡ looking p.at.openers (state p) → Queued p r (λ s. f (look (Some None) s))
+queued_counted p u r f c q o l n k e = queued-from p u r f _ c q o l n k (ap f e ∙ counted_all p f)
+
+pub alone-looked : (x : Sheet) (v : View) (h : Span) (p : Parser)
+    → staying p (put v str h.from h.to) (looking p.at.openers (state p)) ≡ container_looking x v (here h p.at) (plain str) (state p)
+unfolding tried opens_or
+alone-looked x v h p = counted_all p (staying p (put v str h.from h.to)) ∙ rw (seek-none (state p).openers)
+
+pub opening-looked : (x : Sheet) (v : View) (h : Span) (p : Parser)
+    → staying p (open_as v (here h p.at) sort.Span) (looking p.at.openers (state p)) ≡ container_looking x v (here h p.at) bracket (state p)
 unfolding tried opens_or may_open closed_by both_ways number
-changed_opening x v h p r c = changed-as p r _ c _ (rw (seek-none (state p).openers))
+opening-looked x v h p = counted_all p (staying p (open_as v (here h p.at) sort.Span)) ∙ rw (seek-none (state p).openers)
+
+-- what a scan takes, and a run that opens a verbatim, looks at nothing
+pub queued_taken : (p r : Parser) (f : State → Turn) → Queued p r f → Queued p r (λ s. f (looking 0 s))
+queued_taken p r f c = queued-as p r f c _ (ap f (sym (looking-none (state p))))
 
 -- what a scan accepts lies within the line
 pub scan-within : (line : List ℕ) (to n : ℕ) → n < length (drop to line) → to ≤ length line → to + n + 1 ≤ length line

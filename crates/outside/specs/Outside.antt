@@ -6,13 +6,15 @@ use Rattle.reading.specs.Machine.{View}
 use Rattle.rooms.specs.declared.Parser.{Parser}
 use Rattle.rooms.specs.declared.span.Span.{Span}
 use Rattle.rooms.specs.Records.{event_at}
+use Rattle.containers.specs.Ready.{Countable}
 
--- a token of a line, and room in the queue for what the rest of the line can give
+-- a token of a line, room in the queue for what the rest of the line can give, and in the count for all openers
 pub record TokenReady (v : View) (h : Span) (p : Parser) : Type 0 where
   pub long : h.from < h.to
   pub within : h.to ≤ length v.bytes
   pub small : v.base + length v.bytes ≤ largest
   pub room : (p.at.events + (length v.bytes - h.from)) * queue_numbers ≤ length p.queue.now
+  pub countable : Countable p
 
 -- there is a newest event, and the dollars noted of it are no more than the place it ends at, nor than the place noted as its end
 pub record Ending (l : Last) (p : Parser) : Type 0 where

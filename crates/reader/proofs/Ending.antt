@@ -43,7 +43,7 @@ use Rattle.outcome.specs.Outcomes.{rooms_of, outcome_of, kept, accepts}
 use Rattle.reader.specs.Judging.{asked_last, Parsed}
 
 -- events that the room holds, handed out
-module _ (es : List Event) (ls : List ℕ) (e q o l : List ℕ) (holds : leb (length es) (length e / event_numbers) ≡ true) where
+module _ (es : List Event) (ls : List ℕ) (looks : ℕ) (e q o l : List ℕ) (holds : leb (length es) (length e / event_numbers) ≡ true) where
   -- the room behind them
   handed-fit : {e₁ : List ℕ} → e₁ ≡ handed es e → kept (length es * event_numbers) e₁ ≡ filled (plain es) e
   handed-fit {e₁} given =
@@ -59,15 +59,15 @@ module _ (es : List Event) (ls : List ℕ) (e q o l : List ℕ) (holds : leb (le
       ∙ ap (λ (m : ℕ). plain es ++ replicate m 0) d
 
   accepted : {e₁ : List ℕ} → e₁ ≡ handed es e → {bytes : ℕ} → ls ≡ take bytes l → bytes ≤ length l
-      → accepts (length es) bytes (rooms_of e₁ q o l) ≡ handed_out [] es ls (rooms_of e q o l)
+      → accepts (length es) bytes looks (rooms_of e₁ q o l) ≡ handed_out [] es ls looks (rooms_of e q o l)
   unfolding handed_out
   accepted given {bytes} f b =
       let b' : length ls ≡ bytes = ap (λ (z : List ℕ). length z) f ∙ length-take-le bytes l b in
       let back : kept bytes l ≡ filled ls l =
       ap (λ (z : List ℕ). z ++ replicate (length l - bytes) 0) (sym f) ∙ ap (λ (m : ℕ). ls ++ replicate (length l - m) 0) (sym b') in
-      ap (λ (z : List ℕ). outcome_of (acceptance (length es) bytes) z (zeros q) (zeros o) (kept bytes l)) (handed-fit given)
-      ∙ ap (λ (z : List ℕ). outcome_of (acceptance (length es) bytes) (filled (plain es) e) (zeros q) (zeros o) z) back
-      ∙ ap (λ (m : ℕ). outcome_of (acceptance (length es) m) (filled (plain es) e) (zeros q) (zeros o) (filled ls l)) (sym b')
+      ap (λ (z : List ℕ). outcome_of (acceptance (length es) bytes looks) z (zeros q) (zeros o) (kept bytes l)) (handed-fit given)
+      ∙ ap (λ (z : List ℕ). outcome_of (acceptance (length es) bytes looks) (filled (plain es) e) (zeros q) (zeros o) z) back
+      ∙ ap (λ (m : ℕ). outcome_of (acceptance (length es) m looks) (filled (plain es) e) (zeros q) (zeros o) (filled ls l)) (sym b')
       ∙ rw (holds, handed_out)
 
 -- what the last questions answer, and what is judged by it
@@ -80,19 +80,19 @@ module _ (s : State) (e q o l : List ℕ) {d : Result ℕ Refusal} (b : Option P
   fits = leb (length (drain s.queue)) (length e / event_numbers)
 
   pub judged_accepted : {count : ℕ} → d ≡ Ok count → {e₁ : List ℕ} → e₁ ≡ handed (drain s.queue) e → {bytes : ℕ} → s.labels ≡ take bytes l → bytes ≤ length l
-      → accepts count bytes (rooms_of e₁ q o l) ≡ judged [] b f s (rooms_of e q o l)
+      → accepts count bytes s.looks (rooms_of e₁ q o l) ≡ judged [] b f s (rooms_of e q o l)
   unfolding judged
   judged_accepted {count} is {e₁} given {bytes} ls m = go b f (sym is ∙ asked)
     where
       at : (t : Bool) → fits ≡ t → ◌≡◌ {A = Last} (Ok count) (elim t [ false ↦ Err refusal.EventRoom | true ↦ Ok (length (drain s.queue)) ])
-          → accepts count bytes (rooms_of e₁ q o l) ≡ handed_out [] (drain s.queue) s.labels (rooms_of e q o l)
+          → accepts count bytes s.looks (rooms_of e₁ q o l) ≡ handed_out [] (drain s.queue) s.labels s.looks (rooms_of e q o l)
       at true h g =
           let z : count ≡ length (drain s.queue) = cc in
-          ap (λ (n : ℕ). accepts n bytes (rooms_of e₁ q o l)) z ∙ accepted (drain s.queue) s.labels e q o l h given ls m
+          ap (λ (n : ℕ). accepts n bytes s.looks (rooms_of e₁ q o l)) z ∙ accepted (drain s.queue) s.labels s.looks e q o l h given ls m
       at false h g = cc
 
       go : (b : Option Place) (f : Bool) → ◌≡◌ {A = Last} (Ok count) (asked_last b f (drain s.queue) (length e / event_numbers))
-          → accepts count bytes (rooms_of e₁ q o l) ≡ judged [] b f s (rooms_of e q o l)
+          → accepts count bytes s.looks (rooms_of e₁ q o l) ≡ judged [] b f s (rooms_of e q o l)
       go (Some p) f g = cc
       go None false g = cc
       go None true g = at fits refl g
@@ -103,7 +103,7 @@ module _ (s : State) (e q o l : List ℕ) {d : Result ℕ Refusal} (b : Option P
   judged_refused {r} is e₁ long {a} answers {rooms} clears = rw (answers, clears, long) (go b f (sym is ∙ asked))
     where
       at : (t : Bool) → fits ≡ t → ◌≡◌ {A = Last} (Err r) (elim t [ false ↦ Err refusal.EventRoom | true ↦ Ok (length (drain s.queue)) ])
-          → refuses (code_of r) (place_of r) (cleared (rooms_of e q o l)) ≡ handed_out [] (drain s.queue) s.labels (rooms_of e q o l)
+          → refuses (code_of r) (place_of r) (cleared (rooms_of e q o l)) ≡ handed_out [] (drain s.queue) s.labels s.looks (rooms_of e q o l)
       at true h g = cc
       at false h g =
           let z : r ≡ refusal.EventRoom = cc in
@@ -126,7 +126,7 @@ judged-rooms ls None false s e q o l q' o' l' a b c = rw (a, b, c)
 judged-rooms ls None true s e q o l q' o' l' a b c = go (leb (length (drain s.queue)) (length e / event_numbers)) refl
   where
     go : (t : Bool) → leb (length (drain s.queue)) (length e / event_numbers) ≡ t
-        → handed_out ls (drain s.queue) s.labels (rooms_of e q' o' l') ≡ handed_out ls (drain s.queue) s.labels (rooms_of e q o l)
+        → handed_out ls (drain s.queue) s.labels s.looks (rooms_of e q' o' l') ≡ handed_out ls (drain s.queue) s.labels s.looks (rooms_of e q o l)
     go true h = rw (h, handed_out) (rw (a, b, c))
     go false h = rw (h, handed_out) (rw (a, b, c))
 
@@ -161,8 +161,8 @@ module _ (ls : List Line) where
   judged-lined None true s rooms = go (leb (length (drain s.queue)) (length rooms.events / event_numbers)) refl
     where
       go : (t : Bool) → leb (length (drain s.queue)) (length rooms.events / event_numbers) ≡ t
-          → with_lines ls (handed_out [] (drain s.queue) s.labels rooms) ≡ handed_out ls (drain s.queue) s.labels rooms
-      go true h = rw (h, handed_out) (with-events (outcome_of (acceptance (length (drain s.queue)) (length s.labels)) (filled (plain (drain s.queue)) rooms.events) (zeros rooms.queue) (zeros rooms.openers) (filled s.labels rooms.labels)) _ (lined-all (drain s.queue) rooms.events))
+          → with_lines ls (handed_out [] (drain s.queue) s.labels s.looks rooms) ≡ handed_out ls (drain s.queue) s.labels s.looks rooms
+      go true h = rw (h, handed_out) (with-events (outcome_of (acceptance (length (drain s.queue)) (length s.labels) s.looks) (filled (plain (drain s.queue)) rooms.events) (zeros rooms.queue) (zeros rooms.openers) (filled s.labels rooms.labels)) _ (lined-all (drain s.queue) rooms.events))
       go false h = rw (h, handed_out) (with-events (refuses 9 0 (cleared rooms)) _ (lined-none (cleared rooms).events))
 
 -- spans that run forward start one behind the other
@@ -190,7 +190,7 @@ judged-listed None true s rooms h = go (leb (length (drain s.queue)) (length roo
     es : List Event
     es = drain s.queue
 
-    go : (t : Bool) → leb (length es) (length rooms.events / event_numbers) ≡ t → Listed_in (handed_out [] es s.labels rooms)
+    go : (t : Bool) → leb (length es) (length rooms.events / event_numbers) ≡ t → Listed_in (handed_out [] es s.labels s.looks rooms)
     go true e =
         rw (e, handed_out)
         record {

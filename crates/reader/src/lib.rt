@@ -64,7 +64,7 @@ fn judge(p: Status, rooms: &mut Rooms) -> Answer
     let events = &mut *rooms.events;
     let queue = &mut *rooms.queue;
     match hand_out(p, events, queue) {
-        Ok(count) => rooms.accept(count, p.labels),
+        Ok(count) => rooms.accept(count, p.labels, p.looks),
         Err(r) => {
             rooms.clear();
             r.into()

@@ -17,18 +17,21 @@ use Rattle.lex.specs.Lexer.{next_of}
 use Rattle.reading.specs.declared.Line.{Line}
 use Rattle.reading.specs.declared.Event.{Event}
 use Rattle.reading.specs.Walked.{events}
-use Rattle.reading.specs.Machine.{rules_of, view_of, View, Rules, Sheet, State, Turn, Here}
+use Rattle.reading.specs.Machine.{rules_of, view_of, View, Rules, Sheet, State, Turn, Here, looking}
 use Rattle.reading.specs.Tokens.{role_of}
 use Rattle.reading.specs.Verbatim.{ended_at}
-use Rattle.reading.specs.Reading.{by_place, here_at, on_token, step, unless, steps, begun, line, lines, start, end_of, views, read, sheet}
+use Rattle.reading.specs.Reading.{by_place, here_at, on_token, step, unless, steps, begun, line, lines, start, end_of, views, read, sheet, outside}
 use Rattle.reading.specs.Dropped.{Content, no_content, drops_on, content_on, step_drops, step_content, steps_drop, steps_content, lines_drop, dropped}
 use Rattle.reading.specs.Margin.{Spanned, destination, steps_close, lines_close, destinations}
 use Rattle.reading.proofs.Choose.{choose}
 use Rattle.reading.proofs.Stepping.{either₂}
 use Rattle.reading.proofs.Links.{links-step, links-up}
+use Rattle.reading.proofs.Looks.{taken_looks, step_looks, looks-step, ended-looks}
 use Rattle.reading.proofs.Like.{AllLike, like-other, like-drained, same-events}
 use Rattle.reading.proofs.Telling.{Same}
 use Rattle.reading.proofs.Sides.{Side, Even, Facts, Then, outside-even, in-even, side-ended}
+use Rattle.reading.specs.Looks.{seeks_of, looked, look}
+use Rattle.reading.specs.declared.Opener.{Opener}
 
 -- each step counts the links that it closes
 counted : (x : Sheet) (v : View) (a : Turn) → (step x v a).state.links.0 ≡ a.state.links.0 + length (destination a.state (step x v a).state)
@@ -94,15 +97,28 @@ module _ (t u : List ℕ) (long : length t ≡ length u) (K : ℕ → Type 0) (O
 
       step-even : Facts t u K One v a.state a.cursor.pos (step x v a).cursor.pos → Ahead t u K a.state.links.0 (destination a.state (step x v a).state)
           → Even t u K One (step x v a) (step y v b)
-      unfolding on_token by_place
+      unfolding on_token by_place destination
       step-even f h = on (next_of v.bytes a.cursor).token (ahead-now t u K _ _ h) (omega arith)
         where
           to : ℕ
           to = (step x v a).cursor.pos
 
+          looked-side : (k : ℕ) → Side t u K One (looking k a.state) (looking k r)
+          looked-side k =
+              record { openers = d.openers; inside = d.inside; last = d.last; links = d.links; refused = d.refused; queue = d.queue; labels = d.labels }
+
+          same-facts : (k : ℕ) → Facts t u K One v a.state a.cursor.pos to → Facts t u K One v (looking k a.state) a.cursor.pos to
+          same-facts k f = record { shown = f.shown; behind = f.behind; line = f.line }
+
           by : (h : Here) → h.from ≡ a.cursor.pos → (tk : Token) (w : Option Verbatim)
               → Then t u long K One one rules block m n v a.cursor.pos a.state r d to f (by_place x v h tk w a.state) (by_place y v h tk w r)
-          by h e tk None = outside-even t u long K One one rules block m n v a.cursor.pos a.state r d to f h e (role_of tk.kind)
+          by h e tk None =
+              let k = seeks_of v h tk.kind in
+              subst
+              (λ (os : List Opener).
+              Then t u long K One one rules block m n v a.cursor.pos a.state r d to f (outside x v h (role_of tk.kind) (look k a.state))
+              (outside y v h (role_of tk.kind) (looking (looked k os) r)))
+              (sym d.openers) (outside-even t u long K One one rules block m n v a.cursor.pos (look k a.state) (looking (looked k a.state.openers) r) (looked-side (looked k a.state.openers)) to (same-facts (looked k a.state.openers) f) h e (role_of tk.kind))
           by h e tk (Some w) = in-even t u long K One one rules block m n v a.cursor.pos a.state r d to f h w tk
 
           on : (tk : Option Token)
@@ -112,6 +128,15 @@ module _ (t u : List ℕ) (long : length t ≡ length u) (K : ℕ → Type 0) (O
               let h = here_at a.cursor tk (next_of v.bytes a.cursor).cursor in
               subst (λ (w : Option Verbatim). Then t u long K One one rules block m n v a.cursor.pos a.state r d to f (by_place x v h tk a.state.inside a.state) (by_place y v h tk w r))
               (sym d.inside) (by h refl tk a.state.inside)
+
+      -- what it looks at
+      looks-same : step_looks v b ≡ step_looks v a
+      unfolding taken_looks
+      looks-same = go (next_of v.bytes a.cursor).token
+        where
+          go : (tk : Option Token) → let c = (next_of v.bytes a.cursor).cursor in
+              taken_looks v a.cursor tk c r.inside r.openers ≡ taken_looks v a.cursor tk c a.state.inside a.state.openers
+          go tk = rw (d.inside, d.openers)
 
       -- what it drops, and the content
       drops-same : (c : Content) → step_drops v b c ≡ step_drops v a c
@@ -133,6 +158,7 @@ module _ (t u : List ℕ) (long : length t ≡ length u) (K : ℕ → Type 0) (O
     -- so many steps
     record Ran (k : ℕ) (v : View) (a b : Turn) : Type 0 where
       even : Even t u K One (steps k x v a) (steps k y v b)
+      looks : b.state.looks ≡ a.state.looks → (steps k y v b).state.looks ≡ (steps k x v a).state.looks
       drops : (c : Content) → steps_drop k y v b c ≡ steps_drop k x v a c
       content : (c : Content) → steps_content k y v b c ≡ steps_content k x v a c
 
@@ -144,6 +170,10 @@ module _ (t u : List ℕ) (long : length t ≡ length u) (K : ℕ → Type 0) (O
         (record {
           even = subst (λ (p : Option Place). Even t u K One (steps (suc k) x v a) (unless p (from a b.state) (steps k y v (step y v (from a b.state))))) (sym e.state.refused)
               (either₂ (Even t u K One) a.state.refused _ _ _ _ (λ p z. record { cursor = refl; state = e.state }) (λ z. (later z).even));
+          looks = λ l.
+              subst (λ (p : Option Place). (unless p (from a b.state) (steps k y v (step y v (from a b.state)))).state.looks ≡ (steps (suc k) x v a).state.looks) (sym e.state.refused)
+              (either₂ (λ (p q : Turn). q.state.looks ≡ p.state.looks) a.state.refused _ _ _ _ (λ p z. l)
+              (λ z. (later z).looks (omega (arith, l, looks-step y v (from a b.state), looks-step x v a, looks-same v a b.state e.state))));
           drops = λ c.
               subst
               (λ (p : Option Place).
@@ -170,7 +200,7 @@ module _ (t u : List ℕ) (long : length t ≡ length u) (K : ℕ → Type 0) (O
 
     steps-even : (k : ℕ) (v : View) (a b : Turn) → Ok v a → Ahead t u K a.state.links.0 (steps_close k x v a) → Even t u K One a b → Ran k v a b
     unfolding steps steps_drop steps_content
-    steps-even zero v a b ok h e = record { even = e; drops = λ c. refl; content = λ c. refl }
+    steps-even zero v a b ok h e = record { even = e; looks = λ l. l; drops = λ c. refl; content = λ c. refl }
     steps-even (suc k) v a b ok h e =
         steps-next k v a b e
         (λ z.
@@ -197,11 +227,12 @@ module _ (t u : List ℕ) (long : length t ≡ length u) (K : ℕ → Type 0) (O
 
     record Read (vs : List View) (s r : State) : Type 0 where
       side : Side t u K One (lines x vs s) (lines y vs r)
+      looks : r.looks ≡ s.looks → (lines y vs r).looks ≡ (lines x vs s).looks
       drops : (c : Content) → lines_drop y vs r c ≡ lines_drop x vs s c
 
     lines-even : (ls : List Line) (s r : State) → Oks ls s → Ahead t u K s.links.0 (lines_close x (views t ls) s) → Side t u K One s r → Read (views t ls) s r
     unfolding lines lines_drop lines_close
-    lines-even [] s r ok h d = record { side = d; drops = λ c. refl }
+    lines-even [] s r ok h d = record { side = d; looks = λ l. l; drops = λ c. refl }
     lines-even (l ∷ ls) s r ok h d =
         let v = view_of t l in
         let k = length v.bytes in
@@ -209,7 +240,7 @@ module _ (t u : List ℕ) (long : length t ≡ length u) (K : ℕ → Type 0) (O
         let z = lines-even ls (line x v s) (line y v r) (rest l ls s ok)
         (subst (λ (j : ℕ). Ahead t u K j (lines_close x (views t ls) (line x v s))) (sym (steps-counted k x v (begun x v s))) (ahead-right t u K _ (steps_close k x v (begun x v s)) _ h))
         e.even.state in
-        record { side = z.side; drops = λ c. rw (e.drops c, e.content c, z.drops (steps_content k x v (begun x v s) c)) }
+        record { side = z.side; looks = λ l. z.looks (e.looks l); drops = λ c. rw (e.drops c, e.content c, z.drops (steps_content k x v (begun x v s) c)) }
 
     start-side : Side t u K One start start
     unfolding AllLike
@@ -227,6 +258,12 @@ module _ (t u : List ℕ) (long : length t ≡ length u) (K : ℕ → Type 0) (O
           rw same
           (subst (λ (w : Option Verbatim). Side t u K One (ended_at (end_of ls 0) s.inside s) (ended_at (end_of ls 0) w r)) (sym all.side.inside)
           (side-ended t u K One (end_of ls 0) s.inside s r all.side))
+
+      pub read-looks : (read y ls).looks ≡ (read x ls).looks
+      read-looks =
+          let s = lines x (views t ls) start in
+          let r = lines y (views t ls) start in
+          rw same (ended-looks (end_of ls 0) r.inside r ∙ all.looks refl ∙ sym (ended-looks (end_of ls 0) s.inside s))
 
       pub dropped-side : dropped y ls ≡ dropped x ls
       dropped-side = rw same (all.drops no_content)

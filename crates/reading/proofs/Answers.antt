@@ -21,6 +21,7 @@ use Rattle.reading.specs.Walked.{Accepted, AcceptedHomes}
 use Rattle.reading.proofs.Choose.{choose}
 use Rattle.reading.proofs.Feeding.{Rising}
 use Rattle.reading.proofs.Theorems.{up, homes, room, whole}
+use Rattle.reading.proofs.Counting.{search-room}
 
 -- lines that rise are no longer together than the text
 module _ (text : List ℕ) where
@@ -59,7 +60,7 @@ module _ (text : List ℕ) (ls : List Line) (reading : ℕ) (rooms : Rooms) wher
 
   -- 7 and 8 are refusals too; behind them the list is handed out
   judges : (P : Outcome → Type 0) → ((code at : ℕ) → 1 ≤ code → code ≤ 8 → P (refuses code at (cleared rooms)))
-      → (r : Option Place) (f : Bool) (s : State) → (r ≡ None → f ≡ true → P (handed_out ls (drain s.queue) s.labels rooms)) → P (judged ls r f s rooms)
+      → (r : Option Place) (f : Bool) (s : State) → (r ≡ None → f ≡ true → P (handed_out ls (drain s.queue) s.labels s.looks rooms)) → P (judged ls r f s rooms)
   unfolding judged
   judges P early (Some p) f s late = early 7 p.0 (omega arith) (omega arith)
   judges P early None false s late = early 8 0 (omega arith) (omega arith)
@@ -90,9 +91,9 @@ module _ (text : List ℕ) (ls : List Line) (reading : ℕ) (rooms : Rooms) wher
       Claim o = o.answer.code ≡ 0 → Accepted text ls reading rooms o
 
       go : (read x ls).refused ≡ None → (read x ls).fits ≡ true → Fed text ls → (b : Bool) → leb (length (drain (read x ls).queue)) (length rooms.events / event_numbers) ≡ b
-          → Claim (handed_out ls (drain (read x ls).queue) (read x ls).labels rooms)
+          → Claim (handed_out ls (drain (read x ls).queue) (read x ls).labels (read x ls).looks rooms)
       go r f fed true b e =
-          record { whole = whole x ls fed r; count = rw (b, handed_out); handed = rw (b, handed_out) }
+          record { whole = whole x ls fed r; count = rw (b, handed_out); handed = rw (b, handed_out); search = rw (b, handed_out) (search-room x ls fed r) }
       go r f fed false b e = absurd (omega (arith, rw (b, handed_out) at e))
 
   -- the homes of the events of every accepted sheet
@@ -107,7 +108,7 @@ module _ (text : List ℕ) (ls : List Line) (reading : ℕ) (rooms : Rooms) wher
       Claim o = o.answer.code ≡ 0 → AcceptedHomes text ls reading rooms o
 
       go : (read x ls).refused ≡ None → (read x ls).fits ≡ true → Fed text ls → (b : Bool) → leb (length (drain (read x ls).queue)) (length rooms.events / event_numbers) ≡ b
-          → Claim (handed_out ls (drain (read x ls).queue) (read x ls).labels rooms)
+          → Claim (handed_out ls (drain (read x ls).queue) (read x ls).labels (read x ls).looks rooms)
       go r f fed true b e = record { homes = rw (b, handed_out) (homes x ls fed r f) }
       go r f fed false b e = absurd (omega (arith, rw (b, handed_out) at e))
 

@@ -15,9 +15,10 @@ use Rattle.reading.specs.declared.Place.{Place}
 use Rattle.reading.specs.declared.Role.{Role}
 use Rattle.reading.specs.Machine.{View, Sheet, State, Turn, Here}
 use Rattle.reading.specs.Tokens.{role_of}
-use Rattle.reading.specs.Verbatim.{moved_on}
+use Rattle.reading.specs.Verbatim.{moved_on, ended_at}
 use Rattle.reading.specs.Containers.{close_as}
 use Rattle.reading.specs.Reading.{outside, by_place, here_at, on_token, step, steps, begun, line, lines, start}
+use Rattle.reading.specs.Looks.{seeking}
 use Rattle.reading.proofs.Stepping.{met, either}
 use Rattle.reading.proofs.Ruling.{in_kept, ruled}
 use Rattle.reading.proofs.Links.{links-step}
@@ -36,8 +37,8 @@ module _ (x : Sheet) (v : View) where
       → ((by_place x v h t w s).state.refused ≡ s.refused) ⊎ ((by_place x v h t w s).state.inside ≡ None)
   unfolding by_place
   by-spared s h t None is =
-      let b = outside x v h (role_of t.kind) s in
-      ⊎_elim (λ (e : b.state.refused ≡ s.refused). inl e) (λ (e : b.state.inside ≡ s.inside). inr (e ∙ is)) (outside-spared s h (role_of t.kind))
+      let b = outside x v h (role_of t.kind) (seeking v h t s) in
+      ⊎_elim (λ (e : b.state.refused ≡ s.refused). inl e) (λ (e : b.state.inside ≡ s.inside). inr (e ∙ is)) (outside-spared (seeking v h t s) h (role_of t.kind))
   by-spared s h t (Some w) is = inl (ap (λ z. z.0) (in_kept v h s x.rules t w))
 
   on-spared : (a : Turn) (t : Option Token) (c : Cursor)
@@ -88,3 +89,9 @@ links-steps (suc n) x v a =
 
 pub links-line : (x : Sheet) (v : View) (s : State) → (line x v s).links.0 ≤ length v.bytes + s.links.0
 links-line x v s = links-steps (length v.bytes) x v (begun x v s)
+
+-- the end refuses nothing
+pub ended-un : (b : ℕ) (w : Option Verbatim) (s : State) → (ended_at b w s).refused ≡ s.refused
+unfolding ended_at
+ended-un b None s = refl
+ended-un b (Some w) s = refl

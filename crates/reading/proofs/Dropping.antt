@@ -20,6 +20,7 @@ use Rattle.reading.specs.Verbatim.{taken, opened_as, opens_verbatim, closes, clo
 use Rattle.reading.specs.Verbatim.{blank_content, in_verbatim, moved_on}
 use Rattle.reading.specs.Containers.{close_as}
 use Rattle.reading.specs.Reading.{outside, by_place, here_at, on_token, step, steps, begun, line, views, start}
+use Rattle.reading.specs.Looks.{seeking}
 use Rattle.reading.specs.Dropped.{Content, no_content, token_at, longer_or_shorter, leads, trailing, drops_at, content_with, drops_in}
 use Rattle.reading.specs.Dropped.{content_in, drops_on, content_on, step_drops, step_content, steps_drop, steps_content, lines_drop, dropped}
 use Rattle.reading.proofs.Choose.{choose, choose₂}
@@ -141,11 +142,11 @@ out-tracked s c e = subst (λ (i : Option Verbatim). TracksBy i s c) (sym e) tt
 
 module _ (Loose : ℕ → Type 0) (x : Sheet) (v : View) where
   outside-tracked : (h : Here) (t : Token) (s : State) → s.inside ≡ None
-      → let b = outside x v h (role_of t.kind) s in TracksBy b.state.inside b.state no_content
+      → let b = outside x v h (role_of t.kind) (seeking v h t s) in TracksBy b.state.inside b.state no_content
   unfolding close_as
   outside-tracked h t s is =
-      ruled x x v s (λ a b. TracksBy a.state.inside a.state no_content) (λ a k. out-tracked a.state no_content (ap (λ z. z.1) k ∙ is))
-      (λ h o t os. out-tracked _ no_content is) (λ h. opened-tracked v h s) (λ p. refl) (λ h. out-tracked _ no_content is) h (role_of t.kind)
+      ruled x x v (seeking v h t s) (λ a b. TracksBy a.state.inside a.state no_content) (λ a k. out-tracked a.state no_content (ap (λ z. z.1) k ∙ is))
+      (λ h o t os. out-tracked _ no_content is) (λ h'. opened-tracked v h' (seeking v h t s)) (λ p. refl) (λ h. out-tracked _ no_content is) h (role_of t.kind)
 
   module _ (text : List ℕ) (at n : ℕ) (a : Turn) where
     -- a token: the same is dropped, and the content behind it is tracked

@@ -16,7 +16,7 @@ use Rattle.reading.specs.declared.Last.{Last}
 use Rattle.reading.specs.declared.Verbatim.{Verbatim}
 use Rattle.reading.specs.declared.Home.{Home}
 use Rattle.reading.specs.Events.{event, str}
-use Rattle.reading.specs.Machine.{View, State, dollar, dollars_of, last_of, puts, put, with_openers}
+use Rattle.reading.specs.Machine.{View, State, dollar, dollars_of, last_of, puts, put, with_openers, looking}
 use Rattle.reading.specs.Walked.{neither, walk_by, link_exit, Of, walk_of}
 use Rattle.reading.proofs.Removed.{span_of}
 use Rattle.reading.proofs.Choose.{choose}
@@ -122,6 +122,10 @@ module _ (Loose : ℕ → Type 0) (text : List ℕ) where
   pub out-openers : (os : List Opener) (at n : ℕ) (s : State) → Out at n s → Parts (walks s.queue) os → length os ≤ n
       → Out at n (with_openers os s)
   out-openers os at n s o p l = record { covers = o.covers; parts = p; few = o.few; opens = l; last = o.last }
+
+  -- what was looked at
+  pub out-looking : (k at n : ℕ) (s : State) → Out at n s → Out at n (looking k s)
+  out-looking k at n s o = record { covers = o.covers; parts = o.parts; few = o.few; opens = o.opens; last = o.last }
 
   -- outside and inside, the queue and the openers are bounded
   pub good-few : (w : Option Verbatim) (at n : ℕ) (s : State) → GoodBy w at n s → (length s.queue ≤ n) × (length s.openers ≤ n)

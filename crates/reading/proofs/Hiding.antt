@@ -33,6 +33,7 @@ use Rattle.reading.specs.Verbatim.{nothing, taken, opened_as, closes, kept, form
 use Rattle.reading.specs.Verbatim.{in_verbatim, flagged, ended_at}
 use Rattle.reading.specs.Containers.{seek, takes, span_with, closes_span, close_as, may_open, opens_or}
 use Rattle.reading.specs.Reading.{outside, by_place, here_at, on_token, step, steps, begun, line, lines, start, end_of, views}
+use Rattle.reading.specs.Looks.{seeking}
 use Rattle.reading.specs.Draining.{flushed, touches, drained}
 use Rattle.reading.specs.Walked.{Walk, neither, opening, closing, walk_by, walk_of, link_exit, Shown, Of}
 use Rattle.reading.proofs.Removed.{span_of, cut, removes_at, removes_in, removes_on, step_removes, steps_remove, lines_remove, removed}
@@ -42,7 +43,7 @@ use Rattle.reading.proofs.Queue.{walks, parts-seek, parts-close, inner-found}
 use Rattle.reading.proofs.Spans.{Any, Gap, Covers, covers_up, covers-parts, covers-amend, of-dec, of_parts}
 use Rattle.reading.proofs.Places.{HereOk, here-ok, peek-place}
 use Rattle.reading.proofs.Tables.{KindOk, closing-ok}
-use Rattle.reading.proofs.Good.{Out, In, GoodBy, Ends}
+use Rattle.reading.proofs.Good.{Out, In, GoodBy, Ends, out-looking}
 use Rattle.reading.proofs.Ruling.{by-rule-where}
 use Rattle.reading.proofs.Backticks.{Shows, taken-ends, cut-amend}
 use Rattle.reading.proofs.Stepping.{Held, either, either₂, step-held}
@@ -390,7 +391,9 @@ module _ (text : List ℕ) (x : Sheet) (v : View) (m : ℕ) (shows : Shows text 
             → GoodBy Any text w (v.base + a.cursor.pos) (m + a.cursor.pos) a.state
             → let h = here_at a.cursor t (next_of v.bytes a.cursor).cursor in
             Grows (v.base + a.cursor.pos) a.state.queue (by_place x v h t w a.state).state.queue
-        by t e None g = outside-grows Any text x v a.cursor.pos _ a.state g _ (refl, omega arith) (role_of t.kind)
+        by t e None g =
+            let h = here_at a.cursor t (next_of v.bytes a.cursor).cursor in
+            outside-grows Any text x v a.cursor.pos _ (seeking v h t a.state) (out-looking Any text _ _ _ a.state g) _ (refl, omega arith) (role_of t.kind)
         by t e (Some w) g = in-grows Any text w v _ _ (here-ok v a.cursor t held.sound e) a.state g x.rules t
 
         on : (t : Option Token) → (next_of v.bytes a.cursor).token ≡ t

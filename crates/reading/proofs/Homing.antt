@@ -33,6 +33,7 @@ use Rattle.reading.specs.Verbatim.{nothing, opened_as, closes, kept, closed_with
 use Rattle.reading.specs.Verbatim.{ended_at}
 use Rattle.reading.specs.Containers.{takes, span_with, closes_span, close_as, may_open, opens_or}
 use Rattle.reading.specs.Reading.{outside, by_place, on_token, step, steps, begun, lines, start, end_of, views, read}
+use Rattle.reading.specs.Looks.{seeking}
 use Rattle.reading.specs.Draining.{flushed, touches, drained}
 use Rattle.reading.specs.Homes.{container_of, known, has_home, has_link, HomeBy, LinkBy, Homed, AllHomed}
 use Rattle.reading.specs.Walked.{events}
@@ -40,7 +41,7 @@ use Rattle.reading.proofs.Choose.{choose}
 use Rattle.reading.proofs.Queue.{Inner, inner-amend, inner-enters, inner-within}
 use Rattle.reading.proofs.Spans.{Any, Gap, Covers, covers_up}
 use Rattle.reading.proofs.Tables.{traits, Bare, Low, KindOk, RoleOk, closing-ok, unclosed-low, plain_ok, bracket-ok, role-ok}
-use Rattle.reading.proofs.Good.{Out, In, GoodBy}
+use Rattle.reading.proofs.Good.{Out, In, GoodBy, out-looking}
 use Rattle.reading.proofs.Ruling.{by-rule-where}
 use Rattle.reading.proofs.Backticks.{Shows, raw-wraps}
 use Rattle.reading.proofs.Stepping.{Held, either}
@@ -295,7 +296,8 @@ module _ (x : Sheet) (labels : ℕ) where
       where
         by : (h : Here) → h.from ≡ a.cursor.pos → (t : Token) (w : Option Verbatim) → GoodBy Any x.text w (v.base + a.cursor.pos) (m + a.cursor.pos) a.state
             → Then v (by_place x v h t w a.state)
-        by h e t None g = outside-homed v a.cursor.pos _ a.state g (omega (arith, held.sound.place)) k h e (role_of t.kind) (role-ok t.kind)
+        by h e t None g =
+            outside-homed v a.cursor.pos _ (seeking v h t a.state) (out-looking Any x.text _ _ _ a.state g) (omega (arith, held.sound.place)) k h e (role_of t.kind) (role-ok t.kind)
         by h e t (Some w) g = in-homed w v h _ _ a.state g k x.rules t
 
         on : (t : Option Token) → Then v (on_token x v a t (next_of v.bytes a.cursor).cursor)

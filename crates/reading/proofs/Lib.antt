@@ -17,6 +17,7 @@ pub mod Scanning
 pub mod Backticks
 pub mod Stepping
 pub mod Ruling
+pub mod Looks
 pub mod Links
 pub mod Braces
 pub mod Drains
@@ -31,6 +32,7 @@ pub mod Sides
 pub mod Alike
 pub mod Margins
 pub mod Theorems
+pub mod Counting
 pub mod Stopping
 pub mod Answers
 pub mod Lone

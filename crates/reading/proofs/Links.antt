@@ -12,6 +12,7 @@ use Rattle.reading.specs.Tokens.{role_of}
 use Rattle.reading.specs.Verbatim.{in_verbatim}
 use Rattle.reading.specs.Containers.{close_as}
 use Rattle.reading.specs.Reading.{by_place, here_at, on_token, step}
+use Rattle.reading.specs.Looks.{seeking}
 use Rattle.reading.proofs.Ruling.{in_kept, ruled}
 
 -- as many links as of a state, or one more
@@ -25,7 +26,7 @@ module _ (x : Sheet) (v : View) where
   by-links : (s : State) (h : Here) (t : Token) (w : Option Verbatim) → Once s (by_place x v h t w s)
   unfolding by_place close_as
   by-links s h t None =
-      ruled x x v s (λ a b. Once s a) (λ a k. as_many s a (ap (λ z. z.2) k)) (λ h o t os. (omega arith, omega arith))
+      ruled x x v (seeking v h t s) (λ a b. Once s a) (λ a k. as_many s a (ap (λ z. z.2) k)) (λ h o t os. (omega arith, omega arith))
       (λ h. (omega arith, omega arith)) (λ p. refl) (λ h. (omega arith, omega arith)) h (role_of t.kind)
   by-links s h t (Some w) = as_many s (in_verbatim x.rules v h t w s) (ap (λ z. z.1) (in_kept v h s x.rules t w))
 

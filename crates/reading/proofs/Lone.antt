@@ -21,11 +21,13 @@ use Rattle.reading.specs.Containers.{close_as, container}
 use Rattle.reading.specs.Draining.{drain}
 use Rattle.reading.specs.Blocks.{everywhere}
 use Rattle.reading.specs.Reading.{braced, by_place, here_at, on_token, step, steps, begun, line, lines, start, views, end_of, sheet_with, read}
+use Rattle.reading.specs.Looks.{seeking}
 use Rattle.reading.specs.Questions.{Rooms, Outcome, total, first_outside, first_early, label_room, handed_out, judged, outcome_with}
 use Rattle.reading.proofs.Choose.{choose, choose₂}
 use Rattle.reading.proofs.Ruling.{in_kept, each-ruled}
 use Rattle.reading.proofs.Stepping.{met, either, either₂}
 use Rattle.reading.proofs.Answers.{asks-with}
+use Rattle.reading.proofs.Braces.{ended-un}
 
 -- what is not refused behind some steps or lines was not refused before them
 steps-un : (n : ℕ) (x : Sheet) (v : View) (a : Turn) → (steps n x v a).state.refused ≡ None → a.state.refused ≡ None
@@ -39,11 +41,6 @@ unfolding lines
 lines-un x [] s e = e
 lines-un x (v ∷ vs) s e = steps-un (length v.bytes) x v (begun x v s) (lines-un x vs (line x v s) e)
 
-ended-un : (b : ℕ) (w : Option Verbatim) (s : State) → (ended_at b w s).refused ≡ s.refused
-unfolding ended_at
-ended-un b None s = refl
-ended-un b (Some w) s = refl
-
 module _ (x : Sheet) where
   -- the same sheet, with a block at every brace
   abbrev y : Sheet
@@ -56,7 +53,7 @@ module _ (x : Sheet) where
   module _ (v : View) where
     by-same : (s : State) (h : Here) (t : Token) (w : Option Verbatim) → Same (by_place x v h t w s) (by_place y v h t w s)
     unfolding by_place close_as braced
-    by-same s h t None = each-ruled x y v s Same (λ a k e. refl) (λ h o t os e. refl) (λ h e. refl) h (λ c e. absurd (met _ e)) (role_of t.kind)
+    by-same s h t None = each-ruled x y v (seeking v h t s) Same (λ a k e. refl) (λ h o t os e. refl) (λ h e. refl) h (λ c e. absurd (met _ e)) (role_of t.kind)
     by-same s h t (Some w) = λ e. refl
 
     on_same : (a : Turn) (t : Option Token) (c : Cursor) → Same (on_token x v a t c) (on_token y v a t c)
@@ -102,8 +99,8 @@ module _ (x : Sheet) where
     by-at : (s : State) → s.refused ≡ None → (h : Here) (t : Token) (w : Option Verbatim) → At (by_place x v h t w s).state.refused
     unfolding by_place close_as
     by-at s un h t None =
-        each-ruled x x v s (λ a b. At a.state.refused) (λ a k. none-at _ (ap (λ z. z.0) k ∙ un)) (λ h o t os. none-at _ un) (λ h. none-at _ un) h
-        (λ c. braced-at v h s un _ refl c) (role_of t.kind)
+        each-ruled x x v (seeking v h t s) (λ a b. At a.state.refused) (λ a k. none-at _ (ap (λ z. z.0) k ∙ un)) (λ h o t os. none-at _ un) (λ h. none-at _ un) h
+        (λ c. braced-at v h (seeking v h t s) un _ refl c) (role_of t.kind)
     by-at s un h t (Some w) = none-at _ (ap (λ z. z.0) (in_kept v h s x.rules t w) ∙ un)
 
     on-at : (a : Turn) → a.state.refused ≡ None → (t : Option Token) (c : Cursor) → At (on_token x v a t c).state.refused

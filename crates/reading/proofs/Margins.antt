@@ -12,7 +12,7 @@ use Rattle.reading.specs.declared.Event.{Event}
 use Rattle.reading.specs.Machine.{View, Rules, Sheet, State, Turn, byte_before, view_of}
 use Rattle.reading.specs.Verbatim.{nothing}
 use Rattle.reading.specs.Blocks.{block_at}
-use Rattle.reading.specs.Reading.{step, steps, begun, line, views, sheet_with, sheet, read}
+use Rattle.reading.specs.Reading.{step, steps, begun, line, views, sheet_with, sheet, read, start}
 use Rattle.reading.specs.Walked.{Of, Shown}
 use Rattle.reading.specs.Margin.{Seen, Spanned, destinations}
 use Rattle.reading.proofs.Spans.{Any, Gap, Covers}
@@ -22,7 +22,7 @@ use Rattle.reading.proofs.Feeding.{Rising, Stood, view-long, view-shows, step-on
 use Rattle.reading.proofs.Hiding.{good-covers, step-grows, shown-within}
 use Rattle.reading.proofs.Telling.{Same, part-same}
 use Rattle.reading.proofs.Sides.{Side, Facts}
-use Rattle.reading.proofs.Alike.{Ahead, read-side}
+use Rattle.reading.proofs.Alike.{read-looks, Ahead, read-side}
 
 -- an event of a queue does not end before it begins
 covers-order : (i a : ℕ) (q : List Event) (b : ℕ) → Covers Any a q b → let d = get_or q i nothing in d.start.0 ≤ d.end.0
@@ -151,11 +151,15 @@ module _ (t u : List ℕ) (long : length t ≡ length u) where
 
     -- the two readings
     module _ (ls : List Line) (r : Rising t 0 ls) (agree : (i : ℕ) → Seen ls i → Same t u i) (h : Ahead t u K 0 (destinations x ls)) where
-      pub sides : Side t u K One (read x ls) (read y ls)
+      started : Oks ls start
       unfolding Shown
-      sides =
-          read-side t u long K One one rules block m n Ok Oks facts next begin rest ls (views-same 0 ls r agree)
-          (record { at = 0; fed = 0; stood = start-stood Any t x; rising = r; same = λ j o. agree j (of-seen ls j o); shown = λ e j s. absurd s }) h
+      started = record { at = 0; fed = 0; stood = start-stood Any t x; rising = r; same = λ j o. agree j (of-seen ls j o); shown = λ e j s. absurd s }
+
+      pub sides : Side t u K One (read x ls) (read y ls)
+      sides = read-side t u long K One one rules block m n Ok Oks facts next begin rest ls (views-same 0 ls r agree) started h
+
+      pub looks-same : (read y ls).looks ≡ (read x ls).looks
+      looks-same = read-looks t u long K One one rules block m n Ok Oks facts next begin rest ls (views-same 0 ls r agree) started h
 
   -- by the definition of the links whose label may differ
   module _ (ls : List Line) (agree : (i : ℕ) → Seen ls i → Same t u i) (all : List (List Event)) where

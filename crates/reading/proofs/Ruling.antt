@@ -1,5 +1,5 @@
--- The rules of a token, gone through once, for two sheets side by side, in two states (`by-rule-where`) or in one (`by-rule`). All but three leave four sides of the state as they were: the refusal, the
--- open verbatim, the count of links and whether all labels fitted. The three are a link that closes, a run that opens a verbatim, an attribute block (`ruled`).
+-- The rules of a token, gone through once, for two sheets side by side, in two states (`by-rule-where`) or in one (`by-rule`). All but three leave five sides of the state as they were: the refusal, the
+-- open verbatim, the count of links, whether all labels fitted and what was looked at. The three are a link that closes, a run that opens a verbatim, an attribute block (`ruled`).
 use Rattle.std.specs.Prelude.{None, Option, Some}
 use Rattle.reading.specs.declared.Closer.{Closer}
 use Rattle.reading.specs.declared.Sort.{Sort}
@@ -36,12 +36,12 @@ use Rattle.reading.specs.Containers.{tried, container}
 use Rattle.reading.specs.Reading.{refuse, angle, colon, noted, bracketed, braced, outside}
 use Rattle.reading.proofs.Choose.{choose, choose₂}
 
--- the four sides, and, inside a verbatim, those besides it
-abbrev sides : State → Option Place × Option Verbatim × Link × Bool
-sides s = (s.refused, s.inside, s.links, s.fits)
+-- the five sides, and, inside a verbatim, those besides it
+abbrev sides : State → Option Place × Option Verbatim × Link × Bool × ℕ
+sides s = (s.refused, s.inside, s.links, s.fits, s.looks)
 
-abbrev others : State → Option Place × Link × Bool
-others s = (s.refused, s.links, s.fits)
+abbrev others : State → Option Place × Link × Bool × ℕ
+others s = (s.refused, s.links, s.fits, s.looks)
 
 abbrev pub Kept : State → Turn → Type 0
 Kept s a = sides a.state ≡ sides s
@@ -200,7 +200,7 @@ module _ (x y : Sheet) (v : View) (s : State) (P : Turn → Turn → Type 0) (At
       → (h : Here) → At h → (r : Role) → P (outside x v h r s) (outside y v h r s)
   by-rule same refuses h e = each-rule h e (by-brace x y v s s P h (same (v.base + h.from)) (refuses h e))
 
--- where P is of all that keeps the four sides, it is to be shown of a link that closes, of a run that opens a verbatim, and of a brace
+-- where P is of all that keeps the five sides, it is to be shown of a link that closes, of a run that opens a verbatim, and of a brace
 module _ (x y : Sheet) (v : View) (s : State) (P : Turn → Turn → Type 0) (keeps : (a : Turn) → Kept s a → P a a)
     (links : (h : Here) (o : Opener) (t : Target) (os : List Opener)
     → P (close_as x v h o (makes.Link t) (with_openers os s)) (close_as y v h o (makes.Link t) (with_openers os s)))

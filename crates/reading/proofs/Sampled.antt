@@ -2,248 +2,248 @@
 -- Answers of the Rust: sheets of one line and of many, touching or with gaps, in both readings.
 use mathlib.Core.List.{List, [], ◌∷◌, ◌++◌}
 use Rattle.reading.specs.Events.{event, homed, in_text}
-use Rattle.reading.specs.Sheets.{Row, span, at_home, on, given, refused_at}
+use Rattle.reading.specs.Sheets.{Row, span, at_home, on, given, looking_at, refused_at}
 
 unfoldable pub sampled : List Row
 sampled =
-    given "]\"{ z=\" {*a*}{[a][b{" (span 0 20 ∷ []) 0 (on 0 (event 1 0 1 ∷ event 11 1 2 ∷ event 1 2 6 ∷ event 12 6 7 ∷ event 1 7 8 ∷ event 38 8 10 ∷ event 1 10 11 ∷ event 70 11 13 ∷ event 1 13 20 ∷ [])) ""
+    looking_at 5 (given "]\"{ z=\" {*a*}{[a][b{" (span 0 20 ∷ []) 0 (on 0 (event 1 0 1 ∷ event 11 1 2 ∷ event 1 2 6 ∷ event 12 6 7 ∷ event 1 7 8 ∷ event 38 8 10 ∷ event 1 10 11 ∷ event 70 11 13 ∷ event 1 13 20 ∷ [])) "")
     ∷ given ":a{:a{" (span 0 6 ∷ []) 1 (on 0 (event 1 0 6 ∷ [])) ""
     ∷ refused_at "{%\" }{%\" }\" }\" }\" }" (span 0 2 ∷ span 2 5 ∷ span 5 9 ∷ span 9 9 ∷ span 9 17 ∷ span 17 19 ∷ []) 0 0
-    ∷ given "{%[a](b){" (span 0 0 ∷ span 0 8 ∷ span 8 9 ∷ []) 1 (on 1 (event 1 0 2 ∷ homed 46 (in_text 6 7) 2 3 ∷ event 1 3 4 ∷ homed 78 (in_text 6 7) 4 8 ∷ []) ++ on 2 (event 1 8 9 ∷ [])) ""
-    ∷ given "}=}}[]*}[][a]{**}" (span 0 17 ∷ span 17 17 ∷ []) 0 (on 0 (event 1 0 8 ∷ homed 44 (in_text 11 12) 8 9 ∷ homed 76 (in_text 11 12) 9 13 ∷ event 1 13 17 ∷ [])) ""
-    ∷ given "{=[^[^~~}..~" (span 0 12 ∷ []) 1 (on 0 (event 1 0 6 ∷ event 33 6 7 ∷ event 1 7 11 ∷ event 65 11 12 ∷ [])) ""
+    ∷ looking_at 2 (given "{%[a](b){" (span 0 0 ∷ span 0 8 ∷ span 8 9 ∷ []) 1 (on 1 (event 1 0 2 ∷ homed 46 (in_text 6 7) 2 3 ∷ event 1 3 4 ∷ homed 78 (in_text 6 7) 4 8 ∷ []) ++ on 2 (event 1 8 9 ∷ [])) "")
+    ∷ looking_at 4 (given "}=}}[]*}[][a]{**}" (span 0 17 ∷ span 17 17 ∷ []) 0 (on 0 (event 1 0 8 ∷ homed 44 (in_text 11 12) 8 9 ∷ homed 76 (in_text 11 12) 9 13 ∷ event 1 13 17 ∷ [])) "")
+    ∷ looking_at 15 (given "{=[^[^~~}..~" (span 0 12 ∷ []) 1 (on 0 (event 1 0 6 ∷ event 33 6 7 ∷ event 1 7 11 ∷ event 65 11 12 ∷ [])) "")
     ∷ refused_at "{{{{[{{{{[[{a=b}" (span 0 16 ∷ []) 0 11
-    ∷ given "[]![\\a...][...](" (span 3 9 ∷ span 9 13 ∷ span 13 14 ∷ span 14 16 ∷ []) 1 (on 0 (homed 44 (at_home 2 0 3 0) 3 4 ∷ event 1 4 6 ∷ event 6 6 9 ∷ []) ++ on 1 (homed 76 (at_home 2 0 3 0) 9 15 ∷ []) ++ on 3 (event 1 15 16 ∷ [])) "..."
-    ∷ given "** `" (span 0 4 ∷ []) 0 (on 0 (event 1 0 3 ∷ event 40 3 4 ∷ event 72 4 4 ∷ [])) ""
-    ∷ given "@{*{*{*@!!@\\ @@@!!" (span 0 18 ∷ []) 1 (on 0 (event 1 0 11 ∷ event 4 11 12 ∷ event 5 12 13 ∷ event 1 13 18 ∷ [])) ""
-    ∷ given "[a{][]" (span 0 6 ∷ []) 0 (on 0 (homed 44 (at_home 2 0 2 0) 0 1 ∷ event 1 1 3 ∷ homed 76 (at_home 2 0 2 0) 3 6 ∷ [])) "a{"
-    ∷ given " )]*](*](*\\][a \n* " (span 0 18 ∷ []) 1 (on 0 (event 1 0 3 ∷ event 38 3 4 ∷ event 1 4 6 ∷ event 70 6 7 ∷ event 1 7 10 ∷ event 4 10 11 ∷ event 1 11 15 ∷ event 2 15 16 ∷ event 1 16 18 ∷ [])) ""
+    ∷ looking_at 5 (given "[]![\\a...][...](" (span 3 9 ∷ span 9 13 ∷ span 13 14 ∷ span 14 16 ∷ []) 1 (on 0 (homed 44 (at_home 2 0 3 0) 3 4 ∷ event 1 4 6 ∷ event 6 6 9 ∷ []) ++ on 1 (homed 76 (at_home 2 0 3 0) 9 15 ∷ []) ++ on 3 (event 1 15 16 ∷ [])) "...")
+    ∷ looking_at 1 (given "** `" (span 0 4 ∷ []) 0 (on 0 (event 1 0 3 ∷ event 40 3 4 ∷ event 72 4 4 ∷ [])) "")
+    ∷ looking_at 9 (given "@{*{*{*@!!@\\ @@@!!" (span 0 18 ∷ []) 1 (on 0 (event 1 0 11 ∷ event 4 11 12 ∷ event 5 12 13 ∷ event 1 13 18 ∷ [])) "")
+    ∷ looking_at 3 (given "[a{][]" (span 0 6 ∷ []) 0 (on 0 (homed 44 (at_home 2 0 2 0) 0 1 ∷ event 1 1 3 ∷ homed 76 (at_home 2 0 2 0) 3 6 ∷ [])) "a{")
+    ∷ looking_at 9 (given " )]*](*](*\\][a \n* " (span 0 18 ∷ []) 1 (on 0 (event 1 0 3 ∷ event 38 3 4 ∷ event 1 4 6 ∷ event 70 6 7 ∷ event 1 7 10 ∷ event 4 10 11 ∷ event 1 11 15 ∷ event 2 15 16 ∷ event 1 16 18 ∷ [])) "")
     ∷ refused_at "{ #}{ }{ ](}#}](" (span 0 3 ∷ span 3 9 ∷ span 9 14 ∷ span 14 16 ∷ []) 0 4
-    ∷ given "{':a:[^{_{_~a'}[a][]" (span 0 20 ∷ []) 1 (on 0 (event 9 0 2 ∷ homed 13 (in_text 3 4) 2 5 ∷ event 1 5 13 ∷ event 10 13 15 ∷ homed 44 (at_home 2 0 1 0) 15 16 ∷ event 1 16 17 ∷ homed 76 (at_home 2 0 1 0) 17 20 ∷ [])) "a"
-    ∷ given "_a_{<a{:b>\\\"<a{:b>" (span 0 2 ∷ span 2 11 ∷ span 11 15 ∷ span 15 16 ∷ span 16 18 ∷ []) 0 (on 0 (event 37 0 1 ∷ event 1 1 2 ∷ []) ++ on 1 (event 69 2 3 ∷ event 1 3 4 ∷ homed 48 (in_text 5 9) 4 5 ∷ event 1 5 9 ∷ homed 80 (in_text 5 9) 9 10 ∷ event 1 10 11 ∷ []) ++ on 2 (event 11 11 12 ∷ event 1 12 18 ∷ [])) ""
-    ∷ given "<a@b[a][]" (span 0 9 ∷ []) 1 (on 0 (event 1 0 4 ∷ homed 44 (at_home 2 0 1 0) 4 5 ∷ event 1 5 6 ∷ homed 76 (at_home 2 0 1 0) 6 9 ∷ [])) "a"
-    ∷ given "{%#[^*a*{)" (span 0 1 ∷ span 1 5 ∷ span 5 6 ∷ span 6 10 ∷ []) 0 (on 0 (event 1 0 10 ∷ [])) ""
+    ∷ looking_at 17 (given "{':a:[^{_{_~a'}[a][]" (span 0 20 ∷ []) 1 (on 0 (event 9 0 2 ∷ homed 13 (in_text 3 4) 2 5 ∷ event 1 5 13 ∷ event 10 13 15 ∷ homed 44 (at_home 2 0 1 0) 15 16 ∷ event 1 16 17 ∷ homed 76 (at_home 2 0 1 0) 17 20 ∷ [])) "a")
+    ∷ looking_at 4 (given "_a_{<a{:b>\\\"<a{:b>" (span 0 2 ∷ span 2 11 ∷ span 11 15 ∷ span 15 16 ∷ span 16 18 ∷ []) 0 (on 0 (event 37 0 1 ∷ event 1 1 2 ∷ []) ++ on 1 (event 69 2 3 ∷ event 1 3 4 ∷ homed 48 (in_text 5 9) 4 5 ∷ event 1 5 9 ∷ homed 80 (in_text 5 9) 9 10 ∷ event 1 10 11 ∷ []) ++ on 2 (event 11 11 12 ∷ event 1 12 18 ∷ [])) "")
+    ∷ looking_at 2 (given "<a@b[a][]" (span 0 9 ∷ []) 1 (on 0 (event 1 0 4 ∷ homed 44 (at_home 2 0 1 0) 4 5 ∷ event 1 5 6 ∷ homed 76 (at_home 2 0 1 0) 6 9 ∷ [])) "a")
+    ∷ looking_at 6 (given "{%#[^*a*{)" (span 0 1 ∷ span 1 5 ∷ span 5 6 ∷ span 6 10 ∷ []) 0 (on 0 (event 1 0 10 ∷ [])) "")
     ∷ given "\" }\" }\" }<<<'<\" }" (span 0 6 ∷ span 6 6 ∷ span 6 15 ∷ span 15 17 ∷ []) 1 (on 0 (event 12 0 1 ∷ event 1 1 3 ∷ event 12 3 4 ∷ event 1 4 6 ∷ []) ++ on 2 (event 12 6 7 ∷ event 1 7 12 ∷ event 10 12 13 ∷ event 1 13 14 ∷ event 12 14 15 ∷ []) ++ on 3 (event 1 15 17 ∷ [])) ""
     ∷ refused_at "~}{\tr=\"\n\\_  }{  { }" (span 0 11 ∷ span 12 19 ∷ span 19 19 ∷ []) 0 16
-    ∷ given "{.a{.a{=a=}{{=a=}{" (span 0 18 ∷ []) 1 (on 0 (event 1 0 6 ∷ event 39 6 8 ∷ event 1 8 9 ∷ event 71 9 11 ∷ event 1 11 12 ∷ event 39 12 14 ∷ event 1 14 15 ∷ event 71 15 17 ∷ event 1 17 18 ∷ [])) ""
-    ∷ given "'[a](b)[a](b)'" (span 0 5 ∷ span 5 8 ∷ span 8 14 ∷ []) 0 (on 0 (event 9 0 1 ∷ homed 46 (at_home 2 0 1 0) 1 2 ∷ event 1 2 3 ∷ homed 78 (at_home 2 0 1 0) 3 7 ∷ []) ++ on 1 (homed 46 (at_home 1 11 12 1) 7 8 ∷ []) ++ on 2 (event 1 8 9 ∷ homed 78 (at_home 1 11 12 1) 9 13 ∷ event 10 13 14 ∷ [])) "b"
-    ∷ given "+{'![|\n.!\\\n#<a:b>=}" (span 2 7 ∷ span 7 11 ∷ span 11 19 ∷ []) 1 (on 0 (event 10 2 3 ∷ event 1 3 6 ∷ event 2 6 7 ∷ []) ++ on 1 (event 1 7 9 ∷ event 4 9 10 ∷ event 3 10 11 ∷ []) ++ on 2 (event 1 11 12 ∷ homed 48 (in_text 13 16) 12 13 ∷ event 1 13 16 ∷ homed 80 (in_text 13 16) 16 17 ∷ event 1 17 19 ∷ [])) ""
+    ∷ looking_at 2 (given "{.a{.a{=a=}{{=a=}{" (span 0 18 ∷ []) 1 (on 0 (event 1 0 6 ∷ event 39 6 8 ∷ event 1 8 9 ∷ event 71 9 11 ∷ event 1 11 12 ∷ event 39 12 14 ∷ event 1 14 15 ∷ event 71 15 17 ∷ event 1 17 18 ∷ [])) "")
+    ∷ looking_at 7 (given "'[a](b)[a](b)'" (span 0 5 ∷ span 5 8 ∷ span 8 14 ∷ []) 0 (on 0 (event 9 0 1 ∷ homed 46 (at_home 2 0 1 0) 1 2 ∷ event 1 2 3 ∷ homed 78 (at_home 2 0 1 0) 3 7 ∷ []) ++ on 1 (homed 46 (at_home 1 11 12 1) 7 8 ∷ []) ++ on 2 (event 1 8 9 ∷ homed 78 (at_home 1 11 12 1) 9 13 ∷ event 10 13 14 ∷ [])) "b")
+    ∷ looking_at 13 (given "+{'![|\n.!\\\n#<a:b>=}" (span 2 7 ∷ span 7 11 ∷ span 11 19 ∷ []) 1 (on 0 (event 10 2 3 ∷ event 1 3 6 ∷ event 2 6 7 ∷ []) ++ on 1 (event 1 7 9 ∷ event 4 9 10 ∷ event 3 10 11 ∷ []) ++ on 2 (event 1 11 12 ∷ homed 48 (in_text 13 16) 12 13 ∷ event 1 13 16 ∷ homed 80 (in_text 13 16) 16 17 ∷ event 1 17 19 ∷ [])) "")
     ∷ given ">>:a:>:a::a:" (span 0 12 ∷ []) 0 (on 0 (event 1 0 2 ∷ homed 13 (in_text 3 4) 2 5 ∷ event 1 5 6 ∷ homed 13 (in_text 7 8) 6 9 ∷ homed 13 (in_text 10 11) 9 12 ∷ [])) ""
-    ∷ given "\\\n{a=\"b{a=\"b\\\n{a=\"b" (span 0 19 ∷ []) 1 (on 0 (event 4 0 1 ∷ event 3 1 2 ∷ event 1 2 5 ∷ event 11 5 6 ∷ event 1 6 10 ∷ event 12 10 11 ∷ event 1 11 12 ∷ event 4 12 13 ∷ event 3 13 14 ∷ event 1 14 17 ∷ event 11 17 18 ∷ event 1 18 19 ∷ [])) ""
-    ∷ given "[**[[$[$*" (span 0 9 ∷ []) 0 (on 0 (event 1 0 2 ∷ event 38 2 3 ∷ event 1 3 8 ∷ event 70 8 9 ∷ [])) ""
-    ∷ given "a``  \\`{=h}{=h}" (span 2 15 ∷ []) 1 (on 0 (homed 41 (in_text 9 10) 2 3 ∷ event 1 3 6 ∷ homed 73 (in_text 9 10) 6 11 ∷ event 1 11 15 ∷ [])) ""
-    ∷ given "](][[\n]*)*` \\[]" (span 0 9 ∷ span 9 15 ∷ []) 0 (on 0 (event 1 0 5 ∷ event 2 5 6 ∷ event 1 6 7 ∷ event 38 7 8 ∷ event 1 8 9 ∷ []) ++ on 1 (event 70 9 10 ∷ event 40 10 11 ∷ event 1 11 15 ∷ event 72 15 15 ∷ [])) ""
+    ∷ looking_at 2 (given "\\\n{a=\"b{a=\"b\\\n{a=\"b" (span 0 19 ∷ []) 1 (on 0 (event 4 0 1 ∷ event 3 1 2 ∷ event 1 2 5 ∷ event 11 5 6 ∷ event 1 6 10 ∷ event 12 10 11 ∷ event 1 11 12 ∷ event 4 12 13 ∷ event 3 13 14 ∷ event 1 14 17 ∷ event 11 17 18 ∷ event 1 18 19 ∷ [])) "")
+    ∷ looking_at 18 (given "[**[[$[$*" (span 0 9 ∷ []) 0 (on 0 (event 1 0 2 ∷ event 38 2 3 ∷ event 1 3 8 ∷ event 70 8 9 ∷ [])) "")
+    ∷ looking_at 1 (given "a``  \\`{=h}{=h}" (span 2 15 ∷ []) 1 (on 0 (homed 41 (in_text 9 10) 2 3 ∷ event 1 3 6 ∷ homed 73 (in_text 9 10) 6 11 ∷ event 1 11 15 ∷ [])) "")
+    ∷ looking_at 8 (given "](][[\n]*)*` \\[]" (span 0 9 ∷ span 9 15 ∷ []) 0 (on 0 (event 1 0 5 ∷ event 2 5 6 ∷ event 1 6 7 ∷ event 38 7 8 ∷ event 1 8 9 ∷ []) ++ on 1 (event 70 9 10 ∷ event 40 10 11 ∷ event 1 11 15 ∷ event 72 15 15 ∷ [])) "")
     ∷ given "-----  -----$${$$" (span 0 17 ∷ []) 1 (on 0 (event 8 0 3 ∷ event 7 3 5 ∷ event 1 5 7 ∷ event 8 7 10 ∷ event 7 10 12 ∷ event 1 12 17 ∷ [])) ""
-    ∷ given ">*[^\"}\t\t\t*\"}\"}>[^\t" (span 0 5 ∷ span 5 14 ∷ span 14 18 ∷ []) 0 (on 0 (event 1 0 4 ∷ event 12 4 5 ∷ []) ++ on 1 (event 1 5 10 ∷ event 12 10 12 ∷ event 12 12 14 ∷ []) ++ on 2 (event 1 14 18 ∷ [])) ""
-    ∷ given "_!.!___[]_____{*" (span 0 16 ∷ []) 1 (on 0 (event 37 0 1 ∷ event 1 1 4 ∷ event 69 4 5 ∷ event 37 5 6 ∷ event 37 6 7 ∷ event 1 7 9 ∷ event 69 9 10 ∷ event 69 10 11 ∷ event 1 11 16 ∷ [])) ""
+    ∷ looking_at 16 (given ">*[^\"}\t\t\t*\"}\"}>[^\t" (span 0 5 ∷ span 5 14 ∷ span 14 18 ∷ []) 0 (on 0 (event 1 0 4 ∷ event 12 4 5 ∷ []) ++ on 1 (event 1 5 10 ∷ event 12 10 12 ∷ event 12 12 14 ∷ []) ++ on 2 (event 1 14 18 ∷ [])) "")
+    ∷ looking_at 13 (given "_!.!___[]_____{*" (span 0 16 ∷ []) 1 (on 0 (event 37 0 1 ∷ event 1 1 4 ∷ event 69 4 5 ∷ event 37 5 6 ∷ event 37 6 7 ∷ event 1 7 9 ∷ event 69 9 10 ∷ event 69 10 11 ∷ event 1 11 16 ∷ [])) "")
     ∷ given "b1](\n{a=\"b" (span 0 5 ∷ span 5 10 ∷ []) 0 (on 0 (event 1 0 4 ∷ event 2 4 5 ∷ []) ++ on 1 (event 1 5 8 ∷ event 11 8 9 ∷ event 1 9 10 ∷ [])) ""
-    ∷ given "{^[a](b)``--'|<a:b>" (span 0 19 ∷ []) 1 (on 0 (event 1 0 2 ∷ homed 46 (in_text 6 7) 2 3 ∷ event 1 3 4 ∷ homed 78 (in_text 6 7) 4 8 ∷ event 40 8 10 ∷ event 1 10 19 ∷ event 72 19 19 ∷ [])) ""
+    ∷ looking_at 3 (given "{^[a](b)``--'|<a:b>" (span 0 19 ∷ []) 1 (on 0 (event 1 0 2 ∷ homed 46 (in_text 6 7) 2 3 ∷ event 1 3 4 ∷ homed 78 (in_text 6 7) 4 8 ∷ event 40 8 10 ∷ event 1 10 19 ∷ event 72 19 19 ∷ [])) "")
     ∷ given "$<a:b>^\\${^<a:b>" (span 0 0 ∷ span 0 3 ∷ span 3 7 ∷ span 7 10 ∷ span 10 10 ∷ span 10 16 ∷ []) 0 (on 1 (event 1 0 7 ∷ []) ++ on 3 (event 4 7 8 ∷ event 1 8 11 ∷ []) ++ on 5 (homed 48 (in_text 12 15) 11 12 ∷ event 1 12 15 ∷ homed 80 (in_text 12 15) 15 16 ∷ [])) ""
-    ∷ given "_*}---_$$*}$" (span 0 12 ∷ []) 1 (on 0 (event 37 0 1 ∷ event 1 1 3 ∷ event 8 3 6 ∷ event 69 6 7 ∷ event 1 7 12 ∷ [])) ""
-    ∷ given "----__[.....[.._****_" (span 0 8 ∷ span 8 18 ∷ span 18 19 ∷ span 19 21 ∷ []) 0 (on 0 (event 7 0 2 ∷ event 7 2 4 ∷ event 37 4 5 ∷ event 37 5 6 ∷ event 1 6 8 ∷ []) ++ on 1 (event 6 8 11 ∷ event 1 11 15 ∷ event 69 15 16 ∷ event 38 16 17 ∷ event 1 17 18 ∷ []) ++ on 2 (event 70 18 19 ∷ []) ++ on 3 (event 1 19 20 ∷ event 69 20 21 ∷ [])) ""
-    ∷ given "][@][][][^}][@@*}@][" (span 0 20 ∷ []) 1 (on 0 (event 1 0 1 ∷ homed 44 (at_home 2 0 1 0) 1 2 ∷ event 1 2 3 ∷ homed 76 (at_home 2 0 1 0) 3 6 ∷ homed 44 (at_home 1 9 11 1) 6 7 ∷ homed 76 (at_home 1 9 11 1) 7 12 ∷ event 1 12 20 ∷ [])) "@"
-    ∷ given "[a][]^>](@" (span 0 9 ∷ span 9 10 ∷ []) 0 (on 0 (homed 44 (at_home 2 0 1 0) 0 1 ∷ event 1 1 2 ∷ homed 76 (at_home 2 0 1 0) 2 5 ∷ event 1 5 10 ∷ [])) "a"
-    ∷ given "-[a][]" (span 0 6 ∷ []) 1 (on 0 (event 1 0 1 ∷ homed 44 (at_home 2 0 1 0) 1 2 ∷ event 1 2 3 ∷ homed 76 (at_home 2 0 1 0) 3 6 ∷ [])) "a"
+    ∷ looking_at 3 (given "_*}---_$$*}$" (span 0 12 ∷ []) 1 (on 0 (event 37 0 1 ∷ event 1 1 3 ∷ event 8 3 6 ∷ event 69 6 7 ∷ event 1 7 12 ∷ [])) "")
+    ∷ looking_at 25 (given "----__[.....[.._****_" (span 0 8 ∷ span 8 18 ∷ span 18 19 ∷ span 19 21 ∷ []) 0 (on 0 (event 7 0 2 ∷ event 7 2 4 ∷ event 37 4 5 ∷ event 37 5 6 ∷ event 1 6 8 ∷ []) ++ on 1 (event 6 8 11 ∷ event 1 11 15 ∷ event 69 15 16 ∷ event 38 16 17 ∷ event 1 17 18 ∷ []) ++ on 2 (event 70 18 19 ∷ []) ++ on 3 (event 1 19 20 ∷ event 69 20 21 ∷ [])) "")
+    ∷ looking_at 7 (given "][@][][][^}][@@*}@][" (span 0 20 ∷ []) 1 (on 0 (event 1 0 1 ∷ homed 44 (at_home 2 0 1 0) 1 2 ∷ event 1 2 3 ∷ homed 76 (at_home 2 0 1 0) 3 6 ∷ homed 44 (at_home 1 9 11 1) 6 7 ∷ homed 76 (at_home 1 9 11 1) 7 12 ∷ event 1 12 20 ∷ [])) "@")
+    ∷ looking_at 4 (given "[a][]^>](@" (span 0 9 ∷ span 9 10 ∷ []) 0 (on 0 (homed 44 (at_home 2 0 1 0) 0 1 ∷ event 1 1 2 ∷ homed 76 (at_home 2 0 1 0) 2 5 ∷ event 1 5 10 ∷ [])) "a")
+    ∷ looking_at 2 (given "-[a][]" (span 0 6 ∷ []) 1 (on 0 (event 1 0 1 ∷ homed 44 (at_home 2 0 1 0) 1 2 ∷ event 1 2 3 ∷ homed 76 (at_home 2 0 1 0) 3 6 ∷ [])) "a")
     ∷ given "\\$*}+}` " (span 0 2 ∷ span 2 5 ∷ span 5 8 ∷ []) 0 (on 0 (event 4 0 1 ∷ event 1 1 6 ∷ []) ++ on 2 (event 40 6 7 ∷ event 1 7 8 ∷ event 72 8 8 ∷ [])) ""
-    ∷ given "*}**}*}*" (span 0 8 ∷ []) 1 (on 0 (event 1 0 2 ∷ event 38 2 3 ∷ event 1 3 7 ∷ event 70 7 8 ∷ [])) ""
+    ∷ looking_at 3 (given "*}**}*}*" (span 0 8 ∷ []) 1 (on 0 (event 1 0 2 ∷ event 38 2 3 ∷ event 1 3 7 ∷ event 70 7 8 ∷ [])) "")
     ∷ given "}....<a:b>" (span 0 10 ∷ span 10 10 ∷ []) 0 (on 0 (event 1 0 1 ∷ event 6 1 4 ∷ event 1 4 5 ∷ homed 48 (in_text 6 9) 5 6 ∷ event 1 6 9 ∷ homed 80 (in_text 6 9) 9 10 ∷ [])) ""
     ∷ given "....$*" (span 0 6 ∷ []) 1 (on 0 (event 6 0 3 ∷ event 1 3 6 ∷ [])) ""
-    ∷ given "--_{*--{*{*--_{*{*{*" (span 0 20 ∷ []) 0 (on 0 (event 7 0 2 ∷ event 37 2 3 ∷ event 1 3 5 ∷ event 7 5 7 ∷ event 1 7 11 ∷ event 7 11 13 ∷ event 69 13 14 ∷ event 1 14 20 ∷ [])) ""
+    ∷ looking_at 19 (given "--_{*--{*{*--_{*{*{*" (span 0 20 ∷ []) 0 (on 0 (event 7 0 2 ∷ event 37 2 3 ∷ event 1 3 5 ∷ event 7 5 7 ∷ event 1 7 11 ∷ event 7 11 13 ∷ event 69 13 14 ∷ event 1 14 20 ∷ [])) "")
     ∷ given "{" (span 0 1 ∷ []) 1 (on 0 (event 1 0 1 ∷ [])) ""
-    ∷ given "b1[a](b{[[a][b{" (span 0 15 ∷ span 15 15 ∷ []) 0 (on 0 (event 1 0 15 ∷ [])) ""
-    ∷ given "\"}[a][]" (span 1 7 ∷ []) 1 (on 0 (event 1 1 2 ∷ homed 44 (at_home 2 0 1 0) 2 3 ∷ event 1 3 4 ∷ homed 76 (at_home 2 0 1 0) 4 7 ∷ [])) "a"
-    ∷ given " *]*]](][*![)\n)]" (span 0 3 ∷ span 3 13 ∷ span 13 16 ∷ span 16 16 ∷ []) 0 (on 0 (event 1 0 1 ∷ event 38 1 2 ∷ event 1 2 3 ∷ []) ++ on 1 (event 70 3 4 ∷ event 1 4 13 ∷ []) ++ on 2 (event 2 13 14 ∷ event 1 14 16 ∷ [])) ""
+    ∷ looking_at 9 (given "b1[a](b{[[a][b{" (span 0 15 ∷ span 15 15 ∷ []) 0 (on 0 (event 1 0 15 ∷ [])) "")
+    ∷ looking_at 2 (given "\"}[a][]" (span 1 7 ∷ []) 1 (on 0 (event 1 1 2 ∷ homed 44 (at_home 2 0 1 0) 2 3 ∷ event 1 3 4 ∷ homed 76 (at_home 2 0 1 0) 4 7 ∷ [])) "a")
+    ∷ looking_at 15 (given " *]*]](][*![)\n)]" (span 0 3 ∷ span 3 13 ∷ span 13 16 ∷ span 16 16 ∷ []) 0 (on 0 (event 1 0 1 ∷ event 38 1 2 ∷ event 1 2 3 ∷ []) ++ on 1 (event 70 3 4 ∷ event 1 4 13 ∷ []) ++ on 2 (event 2 13 14 ∷ event 1 14 16 ∷ [])) "")
     ∷ given "\\\"'\\" (span 0 0 ∷ span 0 4 ∷ []) 1 (on 1 (event 4 0 1 ∷ event 1 1 2 ∷ event 10 2 3 ∷ event 1 3 4 ∷ [])) ""
-    ∷ given "[]\\\\][\\ " (span 0 8 ∷ span 8 8 ∷ []) 0 (on 0 (event 1 0 2 ∷ event 4 2 3 ∷ event 1 3 6 ∷ event 4 6 7 ∷ event 5 7 8 ∷ [])) ""
-    ∷ given "[a]{`%}{%}`)[a](b){" (span 1 19 ∷ []) 1 (on 0 (event 1 1 4 ∷ event 40 4 5 ∷ event 1 5 10 ∷ event 72 10 11 ∷ event 1 11 12 ∷ homed 46 (in_text 16 17) 12 13 ∷ event 1 13 14 ∷ homed 78 (in_text 16 17) 14 18 ∷ event 1 18 19 ∷ [])) ""
-    ∷ given "\n\\\"{[a]{[a]{" (span 2 5 ∷ span 7 12 ∷ []) 0 (on 0 (event 11 2 3 ∷ event 1 3 5 ∷ []) ++ on 1 (event 1 7 12 ∷ [])) ""
+    ∷ looking_at 3 (given "[]\\\\][\\ " (span 0 8 ∷ span 8 8 ∷ []) 0 (on 0 (event 1 0 2 ∷ event 4 2 3 ∷ event 1 3 6 ∷ event 4 6 7 ∷ event 5 7 8 ∷ [])) "")
+    ∷ looking_at 2 (given "[a]{`%}{%}`)[a](b){" (span 1 19 ∷ []) 1 (on 0 (event 1 1 4 ∷ event 40 4 5 ∷ event 1 5 10 ∷ event 72 10 11 ∷ event 1 11 12 ∷ homed 46 (in_text 16 17) 12 13 ∷ event 1 13 14 ∷ homed 78 (in_text 16 17) 14 18 ∷ event 1 18 19 ∷ [])) "")
+    ∷ looking_at 9 (given "\n\\\"{[a]{[a]{" (span 2 5 ∷ span 7 12 ∷ []) 0 (on 0 (event 11 2 3 ∷ event 1 3 5 ∷ []) ++ on 1 (event 1 7 12 ∷ [])) "")
     ∷ given "a{" (span 0 2 ∷ []) 1 (on 0 (event 1 0 2 ∷ [])) ""
-    ∷ given "{]..{=a=}{=[a]{" (span 0 2 ∷ span 2 3 ∷ span 3 11 ∷ span 11 15 ∷ []) 0 (on 0 (event 1 0 4 ∷ []) ++ on 2 (event 39 4 6 ∷ event 1 6 7 ∷ event 71 7 9 ∷ event 1 9 15 ∷ [])) ""
-    ∷ given "{*a*}{{a=\"b" (span 0 5 ∷ span 5 10 ∷ span 10 11 ∷ span 11 11 ∷ []) 1 (on 0 (event 38 0 2 ∷ event 1 2 3 ∷ event 70 3 5 ∷ []) ++ on 1 (event 1 5 9 ∷ event 12 9 10 ∷ []) ++ on 2 (event 1 10 11 ∷ [])) ""
+    ∷ looking_at 4 (given "{]..{=a=}{=[a]{" (span 0 2 ∷ span 2 3 ∷ span 3 11 ∷ span 11 15 ∷ []) 0 (on 0 (event 1 0 4 ∷ []) ++ on 2 (event 39 4 6 ∷ event 1 6 7 ∷ event 71 7 9 ∷ event 1 9 15 ∷ [])) "")
+    ∷ looking_at 1 (given "{*a*}{{a=\"b" (span 0 5 ∷ span 5 10 ∷ span 10 11 ∷ span 11 11 ∷ []) 1 (on 0 (event 38 0 2 ∷ event 1 2 3 ∷ event 70 3 5 ∷ []) ++ on 1 (event 1 5 9 ∷ event 12 9 10 ∷ []) ++ on 2 (event 1 10 11 ∷ [])) "")
     ∷ refused_at "{#a<  \"{.a}{% a %}" (span 0 18 ∷ []) 0 7
-    ∷ given "{{~{~{[a]{~[a][a][a][]" (span 0 6 ∷ span 9 17 ∷ span 17 22 ∷ []) 1 (on 0 (event 1 0 6 ∷ []) ++ on 1 (event 1 9 11 ∷ homed 44 (in_text 15 16) 11 12 ∷ event 1 12 13 ∷ homed 76 (in_text 15 16) 13 17 ∷ []) ++ on 2 (homed 44 (at_home 2 0 1 1) 17 18 ∷ event 1 18 19 ∷ homed 76 (at_home 2 0 1 1) 19 22 ∷ [])) "a"
+    ∷ looking_at 15 (given "{{~{~{[a]{~[a][a][a][]" (span 0 6 ∷ span 9 17 ∷ span 17 22 ∷ []) 1 (on 0 (event 1 0 6 ∷ []) ++ on 1 (event 1 9 11 ∷ homed 44 (in_text 15 16) 11 12 ∷ event 1 12 13 ∷ homed 76 (in_text 15 16) 13 17 ∷ []) ++ on 2 (homed 44 (at_home 2 0 1 1) 17 18 ∷ event 1 18 19 ∷ homed 76 (at_home 2 0 1 1) 19 22 ∷ [])) "a")
     ∷ given "`a`{=b}{" (span 0 8 ∷ []) 0 (on 0 (homed 41 (in_text 5 6) 0 1 ∷ event 1 1 2 ∷ homed 73 (in_text 5 6) 2 7 ∷ event 1 7 8 ∷ [])) ""
-    ∷ given "][)`[]...\\]](](](`" (span 0 18 ∷ span 18 18 ∷ []) 1 (on 0 (event 1 0 3 ∷ event 40 3 4 ∷ event 1 4 17 ∷ event 72 17 18 ∷ [])) ""
-    ∷ given "`[]](a[] `[][]" (span 0 14 ∷ []) 0 (on 0 (event 40 0 1 ∷ event 1 1 9 ∷ event 72 9 10 ∷ homed 44 (at_home 2 0 0 0) 10 11 ∷ homed 76 (at_home 2 0 0 0) 11 14 ∷ [])) ""
-    ∷ given "\\{\\{\\{_a_{_a_{" (span 0 8 ∷ span 8 8 ∷ span 8 14 ∷ []) 1 (on 0 (event 4 0 1 ∷ event 1 1 2 ∷ event 4 2 3 ∷ event 1 3 4 ∷ event 4 4 5 ∷ event 1 5 6 ∷ event 37 6 7 ∷ event 1 7 8 ∷ []) ++ on 2 (event 69 8 9 ∷ event 1 9 14 ∷ [])) ""
+    ∷ looking_at 1 (given "][)`[]...\\]](](](`" (span 0 18 ∷ span 18 18 ∷ []) 1 (on 0 (event 1 0 3 ∷ event 40 3 4 ∷ event 1 4 17 ∷ event 72 17 18 ∷ [])) "")
+    ∷ looking_at 2 (given "`[]](a[] `[][]" (span 0 14 ∷ []) 0 (on 0 (event 40 0 1 ∷ event 1 1 9 ∷ event 72 9 10 ∷ homed 44 (at_home 2 0 0 0) 10 11 ∷ homed 76 (at_home 2 0 0 0) 11 14 ∷ [])) "")
+    ∷ looking_at 4 (given "\\{\\{\\{_a_{_a_{" (span 0 8 ∷ span 8 8 ∷ span 8 14 ∷ []) 1 (on 0 (event 4 0 1 ∷ event 1 1 2 ∷ event 4 2 3 ∷ event 1 3 4 ∷ event 4 4 5 ∷ event 1 5 6 ∷ event 37 6 7 ∷ event 1 7 8 ∷ []) ++ on 2 (event 69 8 9 ∷ event 1 9 14 ∷ [])) "")
     ∷ given "$$`[^a]$$`$$`" (span 0 13 ∷ []) 0 (on 0 (event 43 0 3 ∷ event 1 3 9 ∷ event 75 9 10 ∷ event 43 10 13 ∷ event 75 13 13 ∷ [])) ""
     ∷ refused_at " {a=b } }*a*{{a}a\"\\" (span 0 19 ∷ []) 1 1
-    ∷ given "a\\)![a[]([]][][" (span 0 15 ∷ []) 0 (on 0 (event 1 0 1 ∷ event 4 1 2 ∷ event 1 2 3 ∷ homed 45 (at_home 2 0 6 0) 3 5 ∷ event 1 5 11 ∷ homed 77 (at_home 2 0 6 0) 11 14 ∷ event 1 14 15 ∷ [])) "a[]([]"
-    ∷ given "{*\\\n[a][a]{*[a]{*{*\\\n" (span 0 21 ∷ []) 1 (on 0 (event 1 0 2 ∷ event 4 2 3 ∷ event 3 3 4 ∷ homed 44 (in_text 8 9) 4 5 ∷ event 1 5 6 ∷ homed 76 (in_text 8 9) 6 10 ∷ event 1 10 19 ∷ event 4 19 20 ∷ event 3 20 21 ∷ [])) ""
-    ∷ given "||<a@b[a][b]<a@btexttext" (span 2 5 ∷ span 5 10 ∷ span 10 17 ∷ span 18 20 ∷ span 20 24 ∷ []) 0 (on 0 (event 1 2 6 ∷ []) ++ on 1 (homed 44 (at_home 2 0 1 0) 6 7 ∷ event 1 7 8 ∷ homed 76 (at_home 2 0 1 0) 8 12 ∷ []) ++ on 2 (event 1 12 17 ∷ []) ++ on 3 (event 1 18 24 ∷ [])) "b"
-    ∷ given "__::[[[[[::--- `" (span 0 0 ∷ span 0 8 ∷ span 8 8 ∷ span 8 9 ∷ span 9 16 ∷ []) 1 (on 1 (event 1 0 2 ∷ homed 13 (in_text 3 3) 2 4 ∷ event 1 4 9 ∷ []) ++ on 4 (homed 13 (in_text 10 10) 9 11 ∷ event 8 11 14 ∷ event 1 14 15 ∷ event 40 15 16 ∷ event 72 16 16 ∷ [])) ""
-    ∷ given "{*a*}{\"" (span 0 7 ∷ []) 0 (on 0 (event 38 0 2 ∷ event 1 2 3 ∷ event 70 3 5 ∷ event 11 5 7 ∷ [])) ""
-    ∷ given "{_---" (span 0 1 ∷ span 1 5 ∷ span 5 5 ∷ []) 1 (on 0 (event 1 0 2 ∷ []) ++ on 1 (event 8 2 5 ∷ [])) ""
-    ∷ given "*{%{a=b" (span 0 7 ∷ []) 0 (on 0 (event 1 0 7 ∷ [])) ""
+    ∷ looking_at 8 (given "a\\)![a[]([]][][" (span 0 15 ∷ []) 0 (on 0 (event 1 0 1 ∷ event 4 1 2 ∷ event 1 2 3 ∷ homed 45 (at_home 2 0 6 0) 3 5 ∷ event 1 5 11 ∷ homed 77 (at_home 2 0 6 0) 11 14 ∷ event 1 14 15 ∷ [])) "a[]([]")
+    ∷ looking_at 22 (given "{*\\\n[a][a]{*[a]{*{*\\\n" (span 0 21 ∷ []) 1 (on 0 (event 1 0 2 ∷ event 4 2 3 ∷ event 3 3 4 ∷ homed 44 (in_text 8 9) 4 5 ∷ event 1 5 6 ∷ homed 76 (in_text 8 9) 6 10 ∷ event 1 10 19 ∷ event 4 19 20 ∷ event 3 20 21 ∷ [])) "")
+    ∷ looking_at 2 (given "||<a@b[a][b]<a@btexttext" (span 2 5 ∷ span 5 10 ∷ span 10 17 ∷ span 18 20 ∷ span 20 24 ∷ []) 0 (on 0 (event 1 2 6 ∷ []) ++ on 1 (homed 44 (at_home 2 0 1 0) 6 7 ∷ event 1 7 8 ∷ homed 76 (at_home 2 0 1 0) 8 12 ∷ []) ++ on 2 (event 1 12 17 ∷ []) ++ on 3 (event 1 18 24 ∷ [])) "b")
+    ∷ looking_at 28 (given "__::[[[[[::--- `" (span 0 0 ∷ span 0 8 ∷ span 8 8 ∷ span 8 9 ∷ span 9 16 ∷ []) 1 (on 1 (event 1 0 2 ∷ homed 13 (in_text 3 3) 2 4 ∷ event 1 4 9 ∷ []) ++ on 4 (homed 13 (in_text 10 10) 9 11 ∷ event 8 11 14 ∷ event 1 14 15 ∷ event 40 15 16 ∷ event 72 16 16 ∷ [])) "")
+    ∷ looking_at 1 (given "{*a*}{\"" (span 0 7 ∷ []) 0 (on 0 (event 38 0 2 ∷ event 1 2 3 ∷ event 70 3 5 ∷ event 11 5 7 ∷ [])) "")
+    ∷ looking_at 1 (given "{_---" (span 0 1 ∷ span 1 5 ∷ span 5 5 ∷ []) 1 (on 0 (event 1 0 2 ∷ []) ++ on 1 (event 8 2 5 ∷ [])) "")
+    ∷ looking_at 2 (given "*{%{a=b" (span 0 7 ∷ []) 0 (on 0 (event 1 0 7 ∷ [])) "")
     ∷ refused_at "\\{][{ {{%{.a*{*a*}{" (span 2 19 ∷ []) 1 7
     ∷ given "<a:b>~" (span 0 6 ∷ span 6 6 ∷ []) 0 (on 0 (homed 48 (in_text 1 4) 0 1 ∷ event 1 1 4 ∷ homed 80 (in_text 1 4) 4 5 ∷ event 1 5 6 ∷ [])) ""
     ∷ refused_at "{%{a}{%<a{:b>" (span 0 10 ∷ span 10 13 ∷ []) 1 0
     ∷ refused_at "{a=b}" (span 0 5 ∷ []) 0 0
-    ∷ given "[a][]" (span 0 5 ∷ span 5 5 ∷ []) 1 (on 0 (homed 44 (at_home 2 0 1 0) 0 1 ∷ event 1 1 2 ∷ homed 76 (at_home 2 0 1 0) 2 5 ∷ [])) "a"
-    ∷ given "]<a:b>[][a][]{_[a][]" (span 2 20 ∷ []) 0 (on 0 (event 1 2 6 ∷ homed 44 (in_text 9 10) 6 7 ∷ homed 76 (in_text 9 10) 7 11 ∷ event 1 11 15 ∷ homed 44 (at_home 2 0 1 1) 15 16 ∷ event 1 16 17 ∷ homed 76 (at_home 2 0 1 1) 17 20 ∷ [])) "a"
-    ∷ given "[[b....b$$$``[[``" (span 0 17 ∷ span 17 17 ∷ []) 1 (on 0 (event 1 0 3 ∷ event 6 3 6 ∷ event 1 6 9 ∷ event 43 9 13 ∷ event 1 13 15 ∷ event 75 15 17 ∷ [])) ""
+    ∷ looking_at 2 (given "[a][]" (span 0 5 ∷ span 5 5 ∷ []) 1 (on 0 (homed 44 (at_home 2 0 1 0) 0 1 ∷ event 1 1 2 ∷ homed 76 (at_home 2 0 1 0) 2 5 ∷ [])) "a")
+    ∷ looking_at 6 (given "]<a:b>[][a][]{_[a][]" (span 2 20 ∷ []) 0 (on 0 (event 1 2 6 ∷ homed 44 (in_text 9 10) 6 7 ∷ homed 76 (in_text 9 10) 7 11 ∷ event 1 11 15 ∷ homed 44 (at_home 2 0 1 1) 15 16 ∷ event 1 16 17 ∷ homed 76 (at_home 2 0 1 1) 17 20 ∷ [])) "a")
+    ∷ looking_at 3 (given "[[b....b$$$``[[``" (span 0 17 ∷ span 17 17 ∷ []) 1 (on 0 (event 1 0 3 ∷ event 6 3 6 ∷ event 1 6 9 ∷ event 43 9 13 ∷ event 1 13 15 ∷ event 75 15 17 ∷ [])) "")
     ∷ given "<a{:b>" (span 0 6 ∷ []) 0 (on 0 (homed 48 (in_text 1 5) 0 1 ∷ event 1 1 5 ∷ homed 80 (in_text 1 5) 5 6 ∷ [])) ""
-    ∷ given "~}@~}@[a][b]~}~}~}~}" (span 0 2 ∷ span 3 5 ∷ span 5 12 ∷ span 12 20 ∷ []) 1 (on 0 (event 1 0 2 ∷ []) ++ on 1 (event 1 3 6 ∷ []) ++ on 2 (homed 44 (in_text 10 11) 6 7 ∷ event 1 7 8 ∷ homed 76 (in_text 10 11) 8 12 ∷ []) ++ on 3 (event 1 12 20 ∷ [])) ""
+    ∷ looking_at 2 (given "~}@~}@[a][b]~}~}~}~}" (span 0 2 ∷ span 3 5 ∷ span 5 12 ∷ span 12 20 ∷ []) 1 (on 0 (event 1 0 2 ∷ []) ++ on 1 (event 1 3 6 ∷ []) ++ on 2 (homed 44 (in_text 10 11) 6 7 ∷ event 1 7 8 ∷ homed 76 (in_text 10 11) 8 12 ∷ []) ++ on 3 (event 1 12 20 ∷ [])) "")
     ∷ refused_at "{% a %}<a{:b>[^a{]_a_{" (span 0 22 ∷ []) 0 0
-    ∷ given "*'{={^--~}[a][][]" (span 0 17 ∷ []) 1 (on 0 (event 1 0 1 ∷ event 10 1 2 ∷ event 1 2 6 ∷ event 7 6 8 ∷ event 1 8 10 ∷ homed 44 (at_home 2 0 1 0) 10 11 ∷ event 1 11 12 ∷ homed 76 (at_home 2 0 1 0) 12 15 ∷ event 1 15 17 ∷ [])) "a"
+    ∷ looking_at 19 (given "*'{={^--~}[a][][]" (span 0 17 ∷ []) 1 (on 0 (event 1 0 1 ∷ event 10 1 2 ∷ event 1 2 6 ∷ event 7 6 8 ∷ event 1 8 10 ∷ homed 44 (at_home 2 0 1 0) 10 11 ∷ event 1 11 12 ∷ homed 76 (at_home 2 0 1 0) 12 15 ∷ event 1 15 17 ∷ [])) "a")
     ∷ given "`` ``` `` \\   `" (span 0 15 ∷ []) 0 (on 0 (event 40 0 2 ∷ event 1 3 6 ∷ event 72 7 9 ∷ event 1 9 10 ∷ event 4 10 11 ∷ event 5 11 12 ∷ event 1 12 14 ∷ event 40 14 15 ∷ event 72 15 15 ∷ [])) ""
     ∷ given "\\`.\\````   =``` " (span 0 16 ∷ []) 1 (on 0 (event 4 0 1 ∷ event 1 1 3 ∷ event 4 3 4 ∷ event 1 4 5 ∷ event 40 5 8 ∷ event 1 8 12 ∷ event 72 12 15 ∷ event 1 15 16 ∷ [])) ""
     ∷ given "``    $=." (span 0 9 ∷ []) 0 (on 0 (event 40 0 2 ∷ event 1 2 9 ∷ event 72 9 9 ∷ [])) ""
-    ∷ given "*_-_\\ *>=*_-=>*-*\\ " (span 0 19 ∷ []) 1 (on 0 (event 38 0 1 ∷ event 37 1 2 ∷ event 1 2 3 ∷ event 69 3 4 ∷ event 4 4 5 ∷ event 5 5 6 ∷ event 38 6 7 ∷ event 1 7 9 ∷ event 70 9 10 ∷ event 1 10 14 ∷ event 70 14 15 ∷ event 1 15 17 ∷ event 4 17 18 ∷ event 5 18 19 ∷ [])) ""
-    ∷ given "{*a*}{{a=\"" (span 0 10 ∷ []) 0 (on 0 (event 38 0 2 ∷ event 1 2 3 ∷ event 70 3 5 ∷ event 1 5 9 ∷ event 12 9 10 ∷ [])) ""
-    ∷ given " }\\{a{a=b}{a=\"={=a=}{" (span 2 8 ∷ span 11 14 ∷ span 14 21 ∷ span 21 21 ∷ []) 1 (on 0 (event 4 2 3 ∷ event 1 3 8 ∷ []) ++ on 1 (event 1 11 13 ∷ event 12 13 14 ∷ []) ++ on 2 (event 1 14 15 ∷ event 39 15 17 ∷ event 1 17 18 ∷ event 71 18 20 ∷ event 1 20 21 ∷ [])) ""
-    ∷ given "[[[[a](b){{#[[a](b){" (span 0 20 ∷ []) 0 (on 0 (event 1 0 3 ∷ homed 46 (in_text 7 8) 3 4 ∷ event 1 4 5 ∷ homed 78 (in_text 7 8) 5 9 ∷ event 1 9 13 ∷ homed 46 (at_home 1 17 18 1) 13 14 ∷ event 1 14 15 ∷ homed 78 (at_home 1 17 18 1) 15 19 ∷ event 1 19 20 ∷ [])) ""
+    ∷ looking_at 15 (given "*_-_\\ *>=*_-=>*-*\\ " (span 0 19 ∷ []) 1 (on 0 (event 38 0 1 ∷ event 37 1 2 ∷ event 1 2 3 ∷ event 69 3 4 ∷ event 4 4 5 ∷ event 5 5 6 ∷ event 38 6 7 ∷ event 1 7 9 ∷ event 70 9 10 ∷ event 1 10 14 ∷ event 70 14 15 ∷ event 1 15 17 ∷ event 4 17 18 ∷ event 5 18 19 ∷ [])) "")
+    ∷ looking_at 1 (given "{*a*}{{a=\"" (span 0 10 ∷ []) 0 (on 0 (event 38 0 2 ∷ event 1 2 3 ∷ event 70 3 5 ∷ event 1 5 9 ∷ event 12 9 10 ∷ [])) "")
+    ∷ looking_at 1 (given " }\\{a{a=b}{a=\"={=a=}{" (span 2 8 ∷ span 11 14 ∷ span 14 21 ∷ span 21 21 ∷ []) 1 (on 0 (event 4 2 3 ∷ event 1 3 8 ∷ []) ++ on 1 (event 1 11 13 ∷ event 12 13 14 ∷ []) ++ on 2 (event 1 14 15 ∷ event 39 15 17 ∷ event 1 17 18 ∷ event 71 18 20 ∷ event 1 20 21 ∷ [])) "")
+    ∷ looking_at 27 (given "[[[[a](b){{#[[a](b){" (span 0 20 ∷ []) 0 (on 0 (event 1 0 3 ∷ homed 46 (in_text 7 8) 3 4 ∷ event 1 4 5 ∷ homed 78 (in_text 7 8) 5 9 ∷ event 1 9 13 ∷ homed 46 (at_home 1 17 18 1) 13 14 ∷ event 1 14 15 ∷ homed 78 (at_home 1 17 18 1) 15 19 ∷ event 1 19 20 ∷ [])) "")
     ∷ given ".b<a:b>" (span 0 7 ∷ []) 1 (on 0 (event 1 0 2 ∷ homed 48 (in_text 3 6) 2 3 ∷ event 1 3 6 ∷ homed 80 (in_text 3 6) 6 7 ∷ [])) ""
-    ∷ given "::::>.>{=h}" (span 0 11 ∷ span 11 11 ∷ []) 0 (on 0 (homed 13 (in_text 1 1) 0 2 ∷ homed 13 (in_text 3 3) 2 4 ∷ event 1 4 11 ∷ [])) ""
+    ∷ looking_at 1 (given "::::>.>{=h}" (span 0 11 ∷ span 11 11 ∷ []) 0 (on 0 (homed 13 (in_text 1 1) 0 2 ∷ homed 13 (in_text 3 3) 2 4 ∷ event 1 4 11 ∷ [])) "")
     ∷ given "` ^`_}+}...$......\\ \n" (span 1 21 ∷ span 21 21 ∷ []) 1 (on 0 (event 1 1 3 ∷ event 40 3 4 ∷ event 1 4 21 ∷ []) ++ on 1 (event 72 21 21 ∷ [])) ""
-    ∷ given "R-07_a_{" (span 0 4 ∷ span 4 4 ∷ span 4 8 ∷ []) 0 (on 0 (event 1 0 4 ∷ []) ++ on 2 (event 37 4 5 ∷ event 1 5 6 ∷ event 69 6 7 ∷ event 1 7 8 ∷ [])) ""
+    ∷ looking_at 1 (given "R-07_a_{" (span 0 4 ∷ span 4 4 ∷ span 4 8 ∷ []) 0 (on 0 (event 1 0 4 ∷ []) ++ on 2 (event 37 4 5 ∷ event 1 5 6 ∷ event 69 6 7 ∷ event 1 7 8 ∷ [])) "")
     ∷ given "\\$`+++$`$`$`$`$`" (span 0 11 ∷ span 11 16 ∷ []) 1 (on 0 (event 4 0 1 ∷ event 1 1 2 ∷ event 40 2 3 ∷ event 1 3 7 ∷ event 72 7 8 ∷ event 42 8 10 ∷ event 1 10 11 ∷ []) ++ on 1 (event 74 11 12 ∷ event 42 12 14 ∷ event 1 14 15 ∷ event 74 15 16 ∷ [])) ""
-    ∷ given "#\n\n(#(![(\n\n#![" (span 0 2 ∷ span 2 10 ∷ span 10 14 ∷ []) 0 (on 0 (event 1 0 1 ∷ event 2 1 2 ∷ []) ++ on 1 (event 2 2 3 ∷ event 1 3 9 ∷ event 2 9 10 ∷ []) ++ on 2 (event 2 10 11 ∷ event 1 11 14 ∷ [])) ""
-    ∷ given "[a][b]^}\\ ^}" (span 0 12 ∷ []) 1 (on 0 (homed 44 (in_text 4 5) 0 1 ∷ event 1 1 2 ∷ homed 76 (in_text 4 5) 2 6 ∷ event 1 6 8 ∷ event 4 8 9 ∷ event 5 9 10 ∷ event 1 10 12 ∷ [])) ""
+    ∷ looking_at 4 (given "#\n\n(#(![(\n\n#![" (span 0 2 ∷ span 2 10 ∷ span 10 14 ∷ []) 0 (on 0 (event 1 0 1 ∷ event 2 1 2 ∷ []) ++ on 1 (event 2 2 3 ∷ event 1 3 9 ∷ event 2 9 10 ∷ []) ++ on 2 (event 2 10 11 ∷ event 1 11 14 ∷ [])) "")
+    ∷ looking_at 2 (given "[a][b]^}\\ ^}" (span 0 12 ∷ []) 1 (on 0 (homed 44 (in_text 4 5) 0 1 ∷ event 1 1 2 ∷ homed 76 (in_text 4 5) 2 6 ∷ event 1 6 8 ∷ event 4 8 9 ∷ event 5 9 10 ∷ event 1 10 12 ∷ [])) "")
     ∷ given "--^} `$$|^}::" (span 0 13 ∷ []) 0 (on 0 (event 7 0 2 ∷ event 1 2 5 ∷ event 40 5 6 ∷ event 1 6 13 ∷ event 72 13 13 ∷ [])) ""
-    ∷ given "[a][b][a][b]-----\\$" (span 0 19 ∷ []) 1 (on 0 (homed 44 (in_text 4 5) 0 1 ∷ event 1 1 2 ∷ homed 76 (in_text 4 5) 2 6 ∷ homed 44 (at_home 1 10 11 1) 6 7 ∷ event 1 7 8 ∷ homed 76 (at_home 1 10 11 1) 8 12 ∷ event 8 12 15 ∷ event 7 15 17 ∷ event 4 17 18 ∷ event 1 18 19 ∷ [])) ""
-    ∷ given "___```**````````!" (span 0 17 ∷ []) 0 (on 0 (event 1 0 3 ∷ event 40 3 6 ∷ event 1 6 17 ∷ event 72 17 17 ∷ [])) ""
-    ∷ given "\t.\n`a`{=b{<a{:b>*![a]{" (span 0 6 ∷ span 6 16 ∷ span 16 16 ∷ span 16 22 ∷ span 22 22 ∷ []) 1 (on 0 (event 1 0 2 ∷ event 2 2 3 ∷ event 40 3 4 ∷ event 1 4 5 ∷ event 72 5 6 ∷ []) ++ on 1 (event 1 6 10 ∷ homed 48 (in_text 11 15) 10 11 ∷ event 1 11 15 ∷ homed 80 (in_text 11 15) 15 16 ∷ []) ++ on 3 (event 1 16 22 ∷ [])) ""
-    ∷ given "___{*.....{*" (span 0 2 ∷ span 2 12 ∷ []) 0 (on 0 (event 37 0 1 ∷ event 1 1 2 ∷ []) ++ on 1 (event 69 2 3 ∷ event 1 3 5 ∷ event 6 5 8 ∷ event 1 8 12 ∷ [])) ""
+    ∷ looking_at 4 (given "[a][b][a][b]-----\\$" (span 0 19 ∷ []) 1 (on 0 (homed 44 (in_text 4 5) 0 1 ∷ event 1 1 2 ∷ homed 76 (in_text 4 5) 2 6 ∷ homed 44 (at_home 1 10 11 1) 6 7 ∷ event 1 7 8 ∷ homed 76 (at_home 1 10 11 1) 8 12 ∷ event 8 12 15 ∷ event 7 15 17 ∷ event 4 17 18 ∷ event 1 18 19 ∷ [])) "")
+    ∷ looking_at 2 (given "___```**````````!" (span 0 17 ∷ []) 0 (on 0 (event 1 0 3 ∷ event 40 3 6 ∷ event 1 6 17 ∷ event 72 17 17 ∷ [])) "")
+    ∷ looking_at 7 (given "\t.\n`a`{=b{<a{:b>*![a]{" (span 0 6 ∷ span 6 16 ∷ span 16 16 ∷ span 16 22 ∷ span 22 22 ∷ []) 1 (on 0 (event 1 0 2 ∷ event 2 2 3 ∷ event 40 3 4 ∷ event 1 4 5 ∷ event 72 5 6 ∷ []) ++ on 1 (event 1 6 10 ∷ homed 48 (in_text 11 15) 10 11 ∷ event 1 11 15 ∷ homed 80 (in_text 11 15) 15 16 ∷ []) ++ on 3 (event 1 16 22 ∷ [])) "")
+    ∷ looking_at 4 (given "___{*.....{*" (span 0 2 ∷ span 2 12 ∷ []) 0 (on 0 (event 37 0 1 ∷ event 1 1 2 ∷ []) ++ on 1 (event 69 2 3 ∷ event 1 3 5 ∷ event 6 5 8 ∷ event 1 8 12 ∷ [])) "")
     ∷ given "`\"\\ \n`  [^a]  " (span 0 14 ∷ []) 1 (on 0 (event 40 0 1 ∷ event 1 1 5 ∷ event 72 5 6 ∷ event 1 6 8 ∷ homed 14 (in_text 10 11) 8 12 ∷ event 1 12 14 ∷ [])) ""
-    ∷ given "\na[![))\n ][" (span 0 11 ∷ []) 0 (on 0 (event 2 0 1 ∷ event 1 1 7 ∷ event 2 7 8 ∷ event 1 8 11 ∷ [])) ""
+    ∷ looking_at 8 (given "\na[![))\n ][" (span 0 11 ∷ []) 0 (on 0 (event 2 0 1 ∷ event 1 1 7 ∷ event 2 7 8 ∷ event 1 8 11 ∷ [])) "")
     ∷ given "=<<<a{:b>" (span 0 9 ∷ []) 1 (on 0 (event 1 0 3 ∷ homed 48 (in_text 4 8) 3 4 ∷ event 1 4 8 ∷ homed 80 (in_text 4 8) 8 9 ∷ [])) ""
-    ∷ given "\n\\a)](\\*\n[]![)![" (span 0 16 ∷ []) 0 (on 0 (event 2 0 1 ∷ event 1 1 6 ∷ event 4 6 7 ∷ event 1 7 8 ∷ event 2 8 9 ∷ event 1 9 16 ∷ [])) ""
-    ∷ given "[][][" (span 0 5 ∷ []) 1 (on 0 (homed 44 (at_home 2 0 0 0) 0 1 ∷ homed 76 (at_home 2 0 0 0) 1 4 ∷ event 1 4 5 ∷ [])) ""
+    ∷ looking_at 3 (given "\n\\a)](\\*\n[]![)![" (span 0 16 ∷ []) 0 (on 0 (event 2 0 1 ∷ event 1 1 6 ∷ event 4 6 7 ∷ event 1 7 8 ∷ event 2 8 9 ∷ event 1 9 16 ∷ [])) "")
+    ∷ looking_at 2 (given "[][][" (span 0 5 ∷ []) 1 (on 0 (homed 44 (at_home 2 0 0 0) 0 1 ∷ homed 76 (at_home 2 0 0 0) 1 4 ∷ event 1 4 5 ∷ [])) "")
     ∷ refused_at "*a*{ }{a=\"{=a=}{#" (span 0 17 ∷ []) 0 3
     ∷ refused_at "\" }{#b-c}\\\" }\\\" }{#b-c}" (span 0 23 ∷ []) 1 3
-    ∷ given "{=[a][a]{={=b{=b{=" (span 1 18 ∷ []) 0 (on 0 (event 1 1 2 ∷ homed 44 (in_text 6 7) 2 3 ∷ event 1 3 4 ∷ homed 76 (in_text 6 7) 4 8 ∷ event 1 8 18 ∷ [])) ""
-    ∷ given "])[]][]()...[]" (span 0 14 ∷ []) 1 (on 0 (event 1 0 5 ∷ homed 46 (in_text 8 8) 5 6 ∷ homed 78 (in_text 8 8) 6 9 ∷ event 6 9 12 ∷ event 1 12 14 ∷ [])) ""
-    ∷ given "*.........[a](b)" (span 0 16 ∷ []) 0 (on 0 (event 1 0 1 ∷ event 6 1 4 ∷ event 6 4 7 ∷ event 6 7 10 ∷ homed 46 (in_text 14 15) 10 11 ∷ event 1 11 12 ∷ homed 78 (in_text 14 15) 12 16 ∷ [])) ""
+    ∷ looking_at 8 (given "{=[a][a]{={=b{=b{=" (span 1 18 ∷ []) 0 (on 0 (event 1 1 2 ∷ homed 44 (in_text 6 7) 2 3 ∷ event 1 3 4 ∷ homed 76 (in_text 6 7) 4 8 ∷ event 1 8 18 ∷ [])) "")
+    ∷ looking_at 4 (given "])[]][]()...[]" (span 0 14 ∷ []) 1 (on 0 (event 1 0 5 ∷ homed 46 (in_text 8 8) 5 6 ∷ homed 78 (in_text 8 8) 6 9 ∷ event 6 9 12 ∷ event 1 12 14 ∷ [])) "")
+    ∷ looking_at 4 (given "*.........[a](b)" (span 0 16 ∷ []) 0 (on 0 (event 1 0 1 ∷ event 6 1 4 ∷ event 6 4 7 ∷ event 6 7 10 ∷ homed 46 (in_text 14 15) 10 11 ∷ event 1 11 12 ∷ homed 78 (in_text 14 15) 12 16 ∷ [])) "")
     ∷ refused_at "{{a=b}" (span 0 6 ∷ []) 1 1
-    ∷ given "\\{[]* " (span 0 2 ∷ span 2 6 ∷ []) 0 (on 0 (event 4 0 1 ∷ event 1 1 6 ∷ [])) ""
+    ∷ looking_at 1 (given "\\{[]* " (span 0 2 ∷ span 2 6 ∷ []) 0 (on 0 (event 4 0 1 ∷ event 1 1 6 ∷ [])) "")
     ∷ given "\"}\"}-_<a{:b>" (span 0 12 ∷ []) 1 (on 0 (event 12 0 2 ∷ event 12 2 4 ∷ event 1 4 6 ∷ homed 48 (in_text 7 11) 6 7 ∷ event 1 7 11 ∷ homed 80 (in_text 7 11) 11 12 ∷ [])) ""
     ∷ given "`][\\][\n[]\\]![][" (span 0 15 ∷ []) 0 (on 0 (event 40 0 1 ∷ event 1 1 15 ∷ event 72 15 15 ∷ [])) ""
-    ∷ given "{]( )*[ ][ ](" (span 0 13 ∷ []) 1 (on 0 (event 1 0 6 ∷ homed 44 (in_text 10 11) 6 7 ∷ event 1 7 8 ∷ homed 76 (in_text 10 11) 8 12 ∷ event 1 12 13 ∷ [])) ""
+    ∷ looking_at 4 (given "{]( )*[ ][ ](" (span 0 13 ∷ []) 1 (on 0 (event 1 0 6 ∷ homed 44 (in_text 10 11) 6 7 ∷ event 1 7 8 ∷ homed 76 (in_text 10 11) 8 12 ∷ event 1 12 13 ∷ [])) "")
     ∷ given "{  " (span 0 3 ∷ span 3 3 ∷ []) 0 (on 0 (event 1 0 3 ∷ [])) ""
     ∷ given "--" (span 0 2 ∷ []) 1 (on 0 (event 7 0 2 ∷ [])) ""
-    ∷ given "[a{][]" (span 0 6 ∷ []) 0 (on 0 (homed 44 (at_home 2 0 2 0) 0 1 ∷ event 1 1 3 ∷ homed 76 (at_home 2 0 2 0) 3 6 ∷ [])) "a{"
+    ∷ looking_at 3 (given "[a{][]" (span 0 6 ∷ []) 0 (on 0 (homed 44 (at_home 2 0 2 0) 0 1 ∷ event 1 1 3 ∷ homed 76 (at_home 2 0 2 0) 3 6 ∷ [])) "a{")
     ∷ given " ``` a``a" (span 0 9 ∷ []) 1 (on 0 (event 1 0 1 ∷ event 40 1 4 ∷ event 1 4 9 ∷ event 72 9 9 ∷ [])) ""
-    ∷ given "_____...." (span 0 3 ∷ span 3 9 ∷ []) 0 (on 0 (event 37 0 1 ∷ event 37 1 2 ∷ event 1 2 3 ∷ []) ++ on 1 (event 69 3 4 ∷ event 69 4 5 ∷ event 6 5 8 ∷ event 1 8 9 ∷ [])) ""
-    ∷ given "__{~_\\\\text" (span 0 11 ∷ span 11 11 ∷ []) 1 (on 0 (event 1 0 1 ∷ event 37 1 2 ∷ event 1 2 4 ∷ event 69 4 5 ∷ event 4 5 6 ∷ event 1 6 11 ∷ [])) ""
-    ∷ given "{~[a][b]" (span 0 8 ∷ []) 0 (on 0 (event 1 0 2 ∷ homed 44 (in_text 6 7) 2 3 ∷ event 1 3 4 ∷ homed 76 (in_text 6 7) 4 8 ∷ [])) ""
-    ∷ given "a](\\[[)[]])...](" (span 0 5 ∷ span 5 14 ∷ span 14 16 ∷ []) 1 (on 0 (event 1 0 3 ∷ event 4 3 4 ∷ event 1 4 11 ∷ []) ++ on 1 (event 6 11 14 ∷ []) ++ on 2 (event 1 14 16 ∷ [])) ""
-    ∷ given "\\$\\${\\\\{*}*}\\$" (span 0 5 ∷ span 5 7 ∷ span 7 14 ∷ []) 0 (on 0 (event 4 0 1 ∷ event 1 1 2 ∷ event 4 2 3 ∷ event 1 3 5 ∷ []) ++ on 1 (event 4 5 6 ∷ event 1 6 7 ∷ []) ++ on 2 (event 38 7 9 ∷ event 1 9 10 ∷ event 70 10 12 ∷ event 4 12 13 ∷ event 1 13 14 ∷ [])) ""
-    ∷ given ">\n>[][]" (span 0 4 ∷ span 4 7 ∷ []) 1 (on 0 (event 1 0 1 ∷ event 2 1 2 ∷ event 1 2 3 ∷ homed 44 (at_home 2 0 0 0) 3 4 ∷ []) ++ on 1 (homed 76 (at_home 2 0 0 0) 4 7 ∷ [])) ""
+    ∷ looking_at 4 (given "_____...." (span 0 3 ∷ span 3 9 ∷ []) 0 (on 0 (event 37 0 1 ∷ event 37 1 2 ∷ event 1 2 3 ∷ []) ++ on 1 (event 69 3 4 ∷ event 69 4 5 ∷ event 6 5 8 ∷ event 1 8 9 ∷ [])) "")
+    ∷ looking_at 6 (given "__{~_\\\\text" (span 0 11 ∷ span 11 11 ∷ []) 1 (on 0 (event 1 0 1 ∷ event 37 1 2 ∷ event 1 2 4 ∷ event 69 4 5 ∷ event 4 5 6 ∷ event 1 6 11 ∷ [])) "")
+    ∷ looking_at 3 (given "{~[a][b]" (span 0 8 ∷ []) 0 (on 0 (event 1 0 2 ∷ homed 44 (in_text 6 7) 2 3 ∷ event 1 3 4 ∷ homed 76 (in_text 6 7) 4 8 ∷ [])) "")
+    ∷ looking_at 4 (given "a](\\[[)[]])...](" (span 0 5 ∷ span 5 14 ∷ span 14 16 ∷ []) 1 (on 0 (event 1 0 3 ∷ event 4 3 4 ∷ event 1 4 11 ∷ []) ++ on 1 (event 6 11 14 ∷ []) ++ on 2 (event 1 14 16 ∷ [])) "")
+    ∷ looking_at 2 (given "\\$\\${\\\\{*}*}\\$" (span 0 5 ∷ span 5 7 ∷ span 7 14 ∷ []) 0 (on 0 (event 4 0 1 ∷ event 1 1 2 ∷ event 4 2 3 ∷ event 1 3 5 ∷ []) ++ on 1 (event 4 5 6 ∷ event 1 6 7 ∷ []) ++ on 2 (event 38 7 9 ∷ event 1 9 10 ∷ event 70 10 12 ∷ event 4 12 13 ∷ event 1 13 14 ∷ [])) "")
+    ∷ looking_at 2 (given ">\n>[][]" (span 0 4 ∷ span 4 7 ∷ []) 1 (on 0 (event 1 0 1 ∷ event 2 1 2 ∷ event 1 2 3 ∷ homed 44 (at_home 2 0 0 0) 3 4 ∷ []) ++ on 1 (homed 76 (at_home 2 0 0 0) 4 7 ∷ [])) "")
     ∷ refused_at "==.[{a=b}{a=" (span 2 12 ∷ []) 0 4
     ∷ given "{a=\"<a{:b>a" (span 0 11 ∷ []) 1 (on 0 (event 1 0 3 ∷ event 11 3 4 ∷ homed 48 (in_text 5 9) 4 5 ∷ event 1 5 9 ∷ homed 80 (in_text 5 9) 9 10 ∷ event 1 10 11 ∷ [])) ""
-    ∷ given "_a_{\" }\" }_a_{" (span 1 14 ∷ span 14 14 ∷ []) 0 (on 0 (event 1 1 2 ∷ event 37 2 3 ∷ event 11 3 5 ∷ event 1 5 7 ∷ event 12 7 8 ∷ event 1 8 10 ∷ event 69 10 11 ∷ event 1 11 14 ∷ [])) ""
-    ∷ given ")[][]\\*...[*" (span 0 12 ∷ span 12 12 ∷ []) 1 (on 0 (event 1 0 1 ∷ homed 44 (at_home 2 0 0 0) 1 2 ∷ homed 76 (at_home 2 0 0 0) 2 5 ∷ event 4 5 6 ∷ event 1 6 7 ∷ event 6 7 10 ∷ event 1 10 12 ∷ [])) ""
+    ∷ looking_at 6 (given "_a_{\" }\" }_a_{" (span 1 14 ∷ span 14 14 ∷ []) 0 (on 0 (event 1 1 2 ∷ event 37 2 3 ∷ event 11 3 5 ∷ event 1 5 7 ∷ event 12 7 8 ∷ event 1 8 10 ∷ event 69 10 11 ∷ event 1 11 14 ∷ [])) "")
+    ∷ looking_at 3 (given ")[][]\\*...[*" (span 0 12 ∷ span 12 12 ∷ []) 1 (on 0 (event 1 0 1 ∷ homed 44 (at_home 2 0 0 0) 1 2 ∷ homed 76 (at_home 2 0 0 0) 2 5 ∷ event 4 5 6 ∷ event 1 6 7 ∷ event 6 7 10 ∷ event 1 10 12 ∷ [])) "")
     ∷ given "--->bb$$`" (span 0 5 ∷ span 5 9 ∷ []) 0 (on 0 (event 8 0 3 ∷ event 1 3 6 ∷ []) ++ on 1 (event 43 6 9 ∷ event 75 9 9 ∷ [])) ""
-    ∷ given "*a*{" (span 0 0 ∷ span 0 4 ∷ []) 1 (on 1 (event 38 0 1 ∷ event 1 1 2 ∷ event 70 2 3 ∷ event 1 3 4 ∷ [])) ""
-    ∷ given "*a*{" (span 0 4 ∷ []) 0 (on 0 (event 38 0 1 ∷ event 1 1 2 ∷ event 70 2 3 ∷ event 1 3 4 ∷ [])) ""
+    ∷ looking_at 1 (given "*a*{" (span 0 0 ∷ span 0 4 ∷ []) 1 (on 1 (event 38 0 1 ∷ event 1 1 2 ∷ event 70 2 3 ∷ event 1 3 4 ∷ [])) "")
+    ∷ looking_at 1 (given "*a*{" (span 0 4 ∷ []) 0 (on 0 (event 38 0 1 ∷ event 1 1 2 ∷ event 70 2 3 ∷ event 1 3 4 ∷ [])) "")
     ∷ given "$`${$`" (span 0 3 ∷ span 3 5 ∷ span 5 6 ∷ []) 1 (on 0 (event 42 0 2 ∷ event 1 2 5 ∷ []) ++ on 2 (event 74 5 6 ∷ [])) ""
     ∷ refused_at "\n=  {% a %}{![a]{[a{][]" (span 0 8 ∷ span 8 19 ∷ span 19 20 ∷ span 20 22 ∷ span 23 23 ∷ span 23 23 ∷ []) 0 4
-    ∷ given "][......" (span 0 8 ∷ []) 1 (on 0 (event 1 0 2 ∷ event 6 2 5 ∷ event 6 5 8 ∷ [])) ""
-    ∷ given ")[]{-..[a][]" (span 0 12 ∷ span 12 12 ∷ []) 0 (on 0 (event 1 0 7 ∷ homed 44 (at_home 2 0 1 0) 7 8 ∷ event 1 8 9 ∷ homed 76 (at_home 2 0 1 0) 9 12 ∷ [])) "a"
+    ∷ looking_at 1 (given "][......" (span 0 8 ∷ []) 1 (on 0 (event 1 0 2 ∷ event 6 2 5 ∷ event 6 5 8 ∷ [])) "")
+    ∷ looking_at 5 (given ")[]{-..[a][]" (span 0 12 ∷ span 12 12 ∷ []) 0 (on 0 (event 1 0 7 ∷ homed 44 (at_home 2 0 1 0) 7 8 ∷ event 1 8 9 ∷ homed 76 (at_home 2 0 1 0) 9 12 ∷ [])) "a")
     ∷ given "````` " (span 0 2 ∷ span 2 6 ∷ span 6 6 ∷ []) 1 (on 0 (event 40 0 2 ∷ []) ++ on 1 (event 1 2 6 ∷ []) ++ on 2 (event 72 6 6 ∷ [])) ""
-    ∷ given "][)...... a\n][])" (span 0 16 ∷ []) 0 (on 0 (event 1 0 1 ∷ homed 44 (at_home 2 0 10 0) 1 2 ∷ event 1 2 3 ∷ event 6 3 6 ∷ event 6 6 9 ∷ event 1 9 11 ∷ event 2 11 12 ∷ homed 76 (at_home 2 0 10 0) 12 15 ∷ event 1 15 16 ∷ [])) ")...... a "
-    ∷ given "[][a[][](a\\\\[]...a)" (span 0 0 ∷ span 0 2 ∷ span 2 7 ∷ span 7 10 ∷ span 10 10 ∷ span 10 14 ∷ span 14 19 ∷ []) 1 (on 1 (event 1 0 4 ∷ []) ++ on 2 (homed 44 (at_home 2 0 0 0) 4 5 ∷ homed 76 (at_home 2 0 0 0) 5 8 ∷ []) ++ on 3 (event 1 8 10 ∷ []) ++ on 5 (event 4 10 11 ∷ event 1 11 14 ∷ []) ++ on 6 (event 6 14 17 ∷ event 1 17 19 ∷ [])) ""
-    ∷ given "\\{{*a*}{" (span 0 4 ∷ span 4 8 ∷ span 8 8 ∷ []) 0 (on 0 (event 4 0 1 ∷ event 1 1 2 ∷ event 38 2 4 ∷ []) ++ on 1 (event 1 4 5 ∷ event 70 5 7 ∷ event 1 7 8 ∷ [])) ""
+    ∷ looking_at 5 (given "][)...... a\n][])" (span 0 16 ∷ []) 0 (on 0 (event 1 0 1 ∷ homed 44 (at_home 2 0 10 0) 1 2 ∷ event 1 2 3 ∷ event 6 3 6 ∷ event 6 6 9 ∷ event 1 9 11 ∷ event 2 11 12 ∷ homed 76 (at_home 2 0 10 0) 12 15 ∷ event 1 15 16 ∷ [])) ")...... a ")
+    ∷ looking_at 10 (given "[][a[][](a\\\\[]...a)" (span 0 0 ∷ span 0 2 ∷ span 2 7 ∷ span 7 10 ∷ span 10 10 ∷ span 10 14 ∷ span 14 19 ∷ []) 1 (on 1 (event 1 0 4 ∷ []) ++ on 2 (homed 44 (at_home 2 0 0 0) 4 5 ∷ homed 76 (at_home 2 0 0 0) 5 8 ∷ []) ++ on 3 (event 1 8 10 ∷ []) ++ on 5 (event 4 10 11 ∷ event 1 11 14 ∷ []) ++ on 6 (event 6 14 17 ∷ event 1 17 19 ∷ [])) "")
+    ∷ looking_at 1 (given "\\{{*a*}{" (span 0 4 ∷ span 4 8 ∷ span 8 8 ∷ []) 0 (on 0 (event 4 0 1 ∷ event 1 1 2 ∷ event 38 2 4 ∷ []) ++ on 1 (event 1 4 5 ∷ event 70 5 7 ∷ event 1 7 8 ∷ [])) "")
     ∷ refused_at "{ {%}door 12{\\{)`a`{=b}{" (span 2 12 ∷ span 13 17 ∷ span 20 21 ∷ span 24 24 ∷ []) 1 2
-    ∷ given "\n*a*{{a=\"" (span 1 9 ∷ []) 0 (on 0 (event 38 1 2 ∷ event 1 2 3 ∷ event 70 3 4 ∷ event 1 4 8 ∷ event 12 8 9 ∷ [])) ""
+    ∷ looking_at 1 (given "\n*a*{{a=\"" (span 1 9 ∷ []) 0 (on 0 (event 38 1 2 ∷ event 1 2 3 ∷ event 70 3 4 ∷ event 1 4 8 ∷ event 12 8 9 ∷ [])) "")
     ∷ given "...'}^}\\ \n{~" (span 0 5 ∷ span 5 5 ∷ span 5 11 ∷ span 11 12 ∷ []) 1 (on 0 (event 6 0 3 ∷ event 10 3 5 ∷ []) ++ on 2 (event 1 5 7 ∷ event 4 7 8 ∷ event 3 8 10 ∷ event 1 10 12 ∷ [])) ""
     ∷ given "][<a:b>" (span 0 7 ∷ span 7 7 ∷ []) 0 (on 0 (event 1 0 2 ∷ homed 48 (in_text 3 6) 2 3 ∷ event 1 3 6 ∷ homed 80 (in_text 3 6) 6 7 ∷ [])) ""
     ∷ given " {.a" (span 0 1 ∷ span 1 1 ∷ span 1 4 ∷ []) 1 (on 0 (event 1 0 4 ∷ [])) ""
     ∷ given "`` {=h}\\`   `` . `" (span 0 18 ∷ []) 0 (on 0 (event 40 0 2 ∷ event 1 2 9 ∷ event 72 12 14 ∷ event 1 14 17 ∷ event 40 17 18 ∷ event 72 18 18 ∷ [])) ""
-    ∷ given "]]{a={*a*}{]\\](\\{*a*}{" (span 0 22 ∷ []) 1 (on 0 (event 1 0 5 ∷ event 38 5 7 ∷ event 1 7 8 ∷ event 70 8 10 ∷ event 1 10 12 ∷ event 4 12 13 ∷ event 1 13 15 ∷ event 4 15 16 ∷ event 1 16 22 ∷ [])) ""
-    ∷ given "[][]-}[][]-}" (span 0 4 ∷ span 4 11 ∷ span 11 12 ∷ span 12 12 ∷ []) 0 (on 0 (homed 44 (at_home 2 0 0 0) 0 1 ∷ homed 76 (at_home 2 0 0 0) 1 4 ∷ []) ++ on 1 (event 1 4 6 ∷ homed 44 (at_home 2 0 0 1) 6 7 ∷ homed 76 (at_home 2 0 0 1) 7 10 ∷ event 1 10 12 ∷ [])) ""
-    ∷ given ")![*[ ][*]([]a![`a{..." (span 0 22 ∷ []) 1 (on 0 (event 1 0 3 ∷ event 38 3 4 ∷ event 1 4 8 ∷ event 70 8 9 ∷ event 1 9 16 ∷ event 40 16 17 ∷ event 1 17 22 ∷ event 72 22 22 ∷ [])) ""
-    ∷ given "![a]{[a](b){-{a=\"b" (span 0 6 ∷ span 6 14 ∷ span 14 18 ∷ []) 0 (on 0 (event 1 0 5 ∷ homed 46 (in_text 9 10) 5 6 ∷ []) ++ on 1 (event 1 6 7 ∷ homed 78 (in_text 9 10) 7 11 ∷ event 1 11 16 ∷ []) ++ on 2 (event 11 16 17 ∷ event 1 17 18 ∷ [])) ""
-    ∷ given "::[a](b){\\\\`a`{=b{" (span 0 2 ∷ span 2 7 ∷ span 7 10 ∷ span 10 18 ∷ []) 1 (on 0 (homed 13 (in_text 1 1) 0 2 ∷ []) ++ on 1 (homed 46 (at_home 2 0 1 0) 2 3 ∷ event 1 3 4 ∷ homed 78 (at_home 2 0 1 0) 4 8 ∷ []) ++ on 2 (event 1 8 10 ∷ []) ++ on 3 (event 4 10 11 ∷ event 1 11 13 ∷ event 40 13 14 ∷ event 1 14 18 ∷ event 72 18 18 ∷ [])) "b"
+    ∷ looking_at 3 (given "]]{a={*a*}{]\\](\\{*a*}{" (span 0 22 ∷ []) 1 (on 0 (event 1 0 5 ∷ event 38 5 7 ∷ event 1 7 8 ∷ event 70 8 10 ∷ event 1 10 12 ∷ event 4 12 13 ∷ event 1 13 15 ∷ event 4 15 16 ∷ event 1 16 22 ∷ [])) "")
+    ∷ looking_at 4 (given "[][]-}[][]-}" (span 0 4 ∷ span 4 11 ∷ span 11 12 ∷ span 12 12 ∷ []) 0 (on 0 (homed 44 (at_home 2 0 0 0) 0 1 ∷ homed 76 (at_home 2 0 0 0) 1 4 ∷ []) ++ on 1 (event 1 4 6 ∷ homed 44 (at_home 2 0 0 1) 6 7 ∷ homed 76 (at_home 2 0 0 1) 7 10 ∷ event 1 10 12 ∷ [])) "")
+    ∷ looking_at 10 (given ")![*[ ][*]([]a![`a{..." (span 0 22 ∷ []) 1 (on 0 (event 1 0 3 ∷ event 38 3 4 ∷ event 1 4 8 ∷ event 70 8 9 ∷ event 1 9 16 ∷ event 40 16 17 ∷ event 1 17 22 ∷ event 72 22 22 ∷ [])) "")
+    ∷ looking_at 5 (given "![a]{[a](b){-{a=\"b" (span 0 6 ∷ span 6 14 ∷ span 14 18 ∷ []) 0 (on 0 (event 1 0 5 ∷ homed 46 (in_text 9 10) 5 6 ∷ []) ++ on 1 (event 1 6 7 ∷ homed 78 (in_text 9 10) 7 11 ∷ event 1 11 16 ∷ []) ++ on 2 (event 11 16 17 ∷ event 1 17 18 ∷ [])) "")
+    ∷ looking_at 2 (given "::[a](b){\\\\`a`{=b{" (span 0 2 ∷ span 2 7 ∷ span 7 10 ∷ span 10 18 ∷ []) 1 (on 0 (homed 13 (in_text 1 1) 0 2 ∷ []) ++ on 1 (homed 46 (at_home 2 0 1 0) 2 3 ∷ event 1 3 4 ∷ homed 78 (at_home 2 0 1 0) 4 8 ∷ []) ++ on 2 (event 1 8 10 ∷ []) ++ on 3 (event 4 10 11 ∷ event 1 11 13 ∷ event 40 13 14 ∷ event 1 14 18 ∷ event 72 18 18 ∷ [])) "b")
     ∷ refused_at "^}]\\\\{ } `` ]" (span 0 13 ∷ []) 0 5
     ∷ given "{*<a:b>``<a:b>" (span 0 14 ∷ []) 1 (on 0 (event 1 0 2 ∷ homed 48 (in_text 3 6) 2 3 ∷ event 1 3 6 ∷ homed 80 (in_text 3 6) 6 7 ∷ event 40 7 9 ∷ event 1 9 14 ∷ event 72 14 14 ∷ [])) ""
-    ∷ given ")][] a`][...\n][" (span 0 13 ∷ span 15 15 ∷ []) 0 (on 0 (event 1 0 6 ∷ event 40 6 7 ∷ event 1 7 13 ∷ []) ++ on 1 (event 72 15 15 ∷ [])) ""
-    ∷ given "]( {a=-]([a][b{{" (span 0 16 ∷ []) 1 (on 0 (event 1 0 16 ∷ [])) ""
+    ∷ looking_at 1 (given ")][] a`][...\n][" (span 0 13 ∷ span 15 15 ∷ []) 0 (on 0 (event 1 0 6 ∷ event 40 6 7 ∷ event 1 7 13 ∷ []) ++ on 1 (event 72 15 15 ∷ [])) "")
+    ∷ looking_at 3 (given "]( {a=-]([a][b{{" (span 0 16 ∷ []) 1 (on 0 (event 1 0 16 ∷ [])) "")
     ∷ given "{^$`>---" (span 0 0 ∷ span 0 8 ∷ []) 0 (on 1 (event 1 0 2 ∷ event 42 2 4 ∷ event 1 4 8 ∷ event 74 8 8 ∷ [])) ""
-    ∷ given "-{+{text({``[a](b)" (span 1 4 ∷ span 4 7 ∷ span 7 12 ∷ span 12 14 ∷ span 14 18 ∷ []) 1 (on 0 (event 1 1 10 ∷ []) ++ on 2 (event 40 10 12 ∷ []) ++ on 3 (event 1 12 18 ∷ []) ++ on 4 (event 72 18 18 ∷ [])) ""
+    ∷ looking_at 3 (given "-{+{text({``[a](b)" (span 1 4 ∷ span 4 7 ∷ span 7 12 ∷ span 12 14 ∷ span 14 18 ∷ []) 1 (on 0 (event 1 1 10 ∷ []) ++ on 2 (event 40 10 12 ∷ []) ++ on 3 (event 1 12 18 ∷ []) ++ on 4 (event 72 18 18 ∷ [])) "")
     ∷ given "....@--~}\n}" (span 0 10 ∷ span 10 11 ∷ span 11 11 ∷ []) 0 (on 0 (event 6 0 3 ∷ event 1 3 5 ∷ event 7 5 7 ∷ event 1 7 9 ∷ event 2 9 10 ∷ []) ++ on 1 (event 1 10 11 ∷ [])) ""
-    ∷ given "*) ![) ]][[[\n\\[" (span 0 1 ∷ span 1 1 ∷ span 1 10 ∷ span 10 14 ∷ span 14 14 ∷ span 14 15 ∷ span 15 15 ∷ []) 1 (on 0 (event 1 0 12 ∷ []) ++ on 3 (event 2 12 13 ∷ event 1 13 15 ∷ [])) ""
-    ∷ given " \\](][a](][][](" (span 0 15 ∷ []) 0 (on 0 (event 1 0 1 ∷ event 4 1 2 ∷ event 1 2 10 ∷ homed 44 (at_home 2 0 0 0) 10 11 ∷ homed 76 (at_home 2 0 0 0) 11 14 ∷ event 1 14 15 ∷ [])) ""
+    ∷ looking_at 11 (given "*) ![) ]][[[\n\\[" (span 0 1 ∷ span 1 1 ∷ span 1 10 ∷ span 10 14 ∷ span 14 14 ∷ span 14 15 ∷ span 15 15 ∷ []) 1 (on 0 (event 1 0 12 ∷ []) ++ on 3 (event 2 12 13 ∷ event 1 13 15 ∷ [])) "")
+    ∷ looking_at 6 (given " \\](][a](][][](" (span 0 15 ∷ []) 0 (on 0 (event 1 0 1 ∷ event 4 1 2 ∷ event 1 2 10 ∷ homed 44 (at_home 2 0 0 0) 10 11 ∷ homed 76 (at_home 2 0 0 0) 11 14 ∷ event 1 14 15 ∷ [])) "")
     ∷ given "|` ` |` ` " (span 0 4 ∷ span 4 10 ∷ []) 1 (on 0 (event 1 0 1 ∷ event 40 1 2 ∷ event 1 2 3 ∷ event 72 3 4 ∷ []) ++ on 1 (event 1 4 6 ∷ event 40 6 7 ∷ event 1 7 8 ∷ event 72 8 9 ∷ event 1 9 10 ∷ [])) ""
-    ∷ given "*a*{`a`{]({ a[a]{" (span 0 7 ∷ span 7 13 ∷ span 13 17 ∷ span 17 17 ∷ []) 0 (on 0 (event 38 0 1 ∷ event 1 1 2 ∷ event 70 2 3 ∷ event 1 3 4 ∷ event 40 4 5 ∷ event 1 5 6 ∷ event 72 6 7 ∷ []) ++ on 1 (event 1 7 17 ∷ [])) ""
+    ∷ looking_at 2 (given "*a*{`a`{]({ a[a]{" (span 0 7 ∷ span 7 13 ∷ span 13 17 ∷ span 17 17 ∷ []) 0 (on 0 (event 38 0 1 ∷ event 1 1 2 ∷ event 70 2 3 ∷ event 1 3 4 ∷ event 40 4 5 ∷ event 1 5 6 ∷ event 72 6 7 ∷ []) ++ on 1 (event 1 7 17 ∷ [])) "")
     ∷ given "`\n`` ." (span 3 5 ∷ span 6 6 ∷ []) 1 (on 0 (event 40 3 4 ∷ event 1 4 5 ∷ []) ++ on 1 (event 72 6 6 ∷ [])) ""
-    ∷ given "  {a=\"\"a\"{\n" (span 0 3 ∷ span 6 11 ∷ span 11 11 ∷ []) 0 (on 0 (event 1 0 3 ∷ []) ++ on 1 (event 11 6 7 ∷ event 1 7 8 ∷ event 12 8 9 ∷ event 1 9 10 ∷ event 2 10 11 ∷ [])) ""
-    ∷ given "[](_[][{a][b]" (span 0 13 ∷ span 13 13 ∷ []) 1 (on 0 (event 1 0 4 ∷ homed 44 (in_text 7 9) 4 5 ∷ homed 76 (in_text 7 9) 5 10 ∷ event 1 10 13 ∷ [])) ""
-    ∷ given "\n[a](b){[a](b){[a](b){" (span 0 9 ∷ span 9 10 ∷ span 10 12 ∷ span 12 16 ∷ span 16 19 ∷ span 19 19 ∷ span 19 21 ∷ span 21 22 ∷ []) 0 (on 0 (event 2 0 1 ∷ homed 46 (in_text 5 6) 1 2 ∷ event 1 2 3 ∷ homed 78 (in_text 5 6) 3 7 ∷ event 1 7 8 ∷ homed 46 (at_home 2 0 1 1) 8 9 ∷ []) ++ on 1 (event 1 9 10 ∷ []) ++ on 2 (homed 78 (at_home 2 0 1 1) 10 14 ∷ []) ++ on 3 (event 1 14 15 ∷ homed 46 (at_home 2 1 2 2) 15 16 ∷ []) ++ on 4 (event 1 16 17 ∷ homed 78 (at_home 2 1 2 2) 17 21 ∷ []) ++ on 7 (event 1 21 22 ∷ [])) "bb"
+    ∷ looking_at 1 (given "  {a=\"\"a\"{\n" (span 0 3 ∷ span 6 11 ∷ span 11 11 ∷ []) 0 (on 0 (event 1 0 3 ∷ []) ++ on 1 (event 11 6 7 ∷ event 1 7 8 ∷ event 12 8 9 ∷ event 1 9 10 ∷ event 2 10 11 ∷ [])) "")
+    ∷ looking_at 12 (given "[](_[][{a][b]" (span 0 13 ∷ span 13 13 ∷ []) 1 (on 0 (event 1 0 4 ∷ homed 44 (in_text 7 9) 4 5 ∷ homed 76 (in_text 7 9) 5 10 ∷ event 1 10 13 ∷ [])) "")
+    ∷ looking_at 6 (given "\n[a](b){[a](b){[a](b){" (span 0 9 ∷ span 9 10 ∷ span 10 12 ∷ span 12 16 ∷ span 16 19 ∷ span 19 19 ∷ span 19 21 ∷ span 21 22 ∷ []) 0 (on 0 (event 2 0 1 ∷ homed 46 (in_text 5 6) 1 2 ∷ event 1 2 3 ∷ homed 78 (in_text 5 6) 3 7 ∷ event 1 7 8 ∷ homed 46 (at_home 2 0 1 1) 8 9 ∷ []) ++ on 1 (event 1 9 10 ∷ []) ++ on 2 (homed 78 (at_home 2 0 1 1) 10 14 ∷ []) ++ on 3 (event 1 14 15 ∷ homed 46 (at_home 2 1 2 2) 15 16 ∷ []) ++ on 4 (event 1 16 17 ∷ homed 78 (at_home 2 1 2 2) 17 21 ∷ []) ++ on 7 (event 1 21 22 ∷ [])) "bb")
     ∷ given "$$`$$`$$`" (span 0 9 ∷ span 9 9 ∷ []) 1 (on 0 (event 43 0 3 ∷ event 1 3 5 ∷ event 75 5 6 ∷ event 43 6 9 ∷ []) ++ on 1 (event 75 9 9 ∷ [])) ""
     ∷ given "{=$`--]([]{'%-}$-----" (span 0 21 ∷ []) 0 (on 0 (event 1 0 2 ∷ event 42 2 4 ∷ event 1 4 21 ∷ event 74 21 21 ∷ [])) ""
-    ∷ given "\na][ \n](..." (span 0 6 ∷ span 6 7 ∷ span 7 11 ∷ []) 1 (on 0 (event 2 0 1 ∷ event 1 1 5 ∷ event 2 5 6 ∷ []) ++ on 1 (event 1 6 8 ∷ []) ++ on 2 (event 6 8 11 ∷ [])) ""
-    ∷ given "*a*{'a'{" (span 0 8 ∷ []) 0 (on 0 (event 38 0 1 ∷ event 1 1 2 ∷ event 70 2 3 ∷ event 9 3 5 ∷ event 1 5 6 ∷ event 10 6 7 ∷ event 1 7 8 ∷ [])) ""
+    ∷ looking_at 2 (given "\na][ \n](..." (span 0 6 ∷ span 6 7 ∷ span 7 11 ∷ []) 1 (on 0 (event 2 0 1 ∷ event 1 1 5 ∷ event 2 5 6 ∷ []) ++ on 1 (event 1 6 8 ∷ []) ++ on 2 (event 6 8 11 ∷ [])) "")
+    ∷ looking_at 2 (given "*a*{'a'{" (span 0 8 ∷ []) 0 (on 0 (event 38 0 1 ∷ event 1 1 2 ∷ event 70 2 3 ∷ event 9 3 5 ∷ event 1 5 6 ∷ event 10 6 7 ∷ event 1 7 8 ∷ [])) "")
     ∷ refused_at "\\\nR-07$${.a}" (span 1 3 ∷ span 3 6 ∷ span 7 8 ∷ span 8 11 ∷ span 11 12 ∷ []) 1 8
-    ∷ given "\\ \n\\$[a][]" (span 0 5 ∷ span 5 6 ∷ span 6 10 ∷ []) 0 (on 0 (event 4 0 1 ∷ event 3 1 3 ∷ event 4 3 4 ∷ event 1 4 5 ∷ []) ++ on 1 (homed 44 (at_home 2 0 1 0) 5 6 ∷ []) ++ on 2 (event 1 6 7 ∷ homed 76 (at_home 2 0 1 0) 7 10 ∷ [])) "a"
-    ∷ given "\" }\" }{=a=}{" (span 0 11 ∷ span 11 12 ∷ []) 1 (on 0 (event 12 0 1 ∷ event 1 1 3 ∷ event 12 3 4 ∷ event 1 4 6 ∷ event 39 6 8 ∷ event 1 8 9 ∷ event 71 9 11 ∷ []) ++ on 1 (event 1 11 12 ∷ [])) ""
+    ∷ looking_at 2 (given "\\ \n\\$[a][]" (span 0 5 ∷ span 5 6 ∷ span 6 10 ∷ []) 0 (on 0 (event 4 0 1 ∷ event 3 1 3 ∷ event 4 3 4 ∷ event 1 4 5 ∷ []) ++ on 1 (homed 44 (at_home 2 0 1 0) 5 6 ∷ []) ++ on 2 (event 1 6 7 ∷ homed 76 (at_home 2 0 1 0) 7 10 ∷ [])) "a")
+    ∷ looking_at 1 (given "\" }\" }{=a=}{" (span 0 11 ∷ span 11 12 ∷ []) 1 (on 0 (event 12 0 1 ∷ event 1 1 3 ∷ event 12 3 4 ∷ event 1 4 6 ∷ event 39 6 8 ∷ event 1 8 9 ∷ event 71 9 11 ∷ []) ++ on 1 (event 1 11 12 ∷ [])) "")
     ∷ refused_at "{{{ }{{ }" (span 2 9 ∷ span 9 9 ∷ []) 0 2
     ∷ refused_at "%}%}{}b1%}" (span 0 5 ∷ span 5 7 ∷ span 7 10 ∷ []) 1 4
-    ∷ given "[]...*[][]](]( )][" (span 0 10 ∷ span 10 11 ∷ span 11 18 ∷ span 18 18 ∷ []) 0 (on 0 (event 1 0 2 ∷ event 6 2 5 ∷ event 1 5 6 ∷ homed 44 (at_home 2 0 0 0) 6 7 ∷ homed 76 (at_home 2 0 0 0) 7 10 ∷ []) ++ on 1 (event 1 10 18 ∷ [])) ""
+    ∷ looking_at 11 (given "[]...*[][]](]( )][" (span 0 10 ∷ span 10 11 ∷ span 11 18 ∷ span 18 18 ∷ []) 0 (on 0 (event 1 0 2 ∷ event 6 2 5 ∷ event 1 5 6 ∷ homed 44 (at_home 2 0 0 0) 6 7 ∷ homed 76 (at_home 2 0 0 0) 7 10 ∷ []) ++ on 1 (event 1 10 18 ∷ [])) "")
     ∷ given "\\$<a:b>\\$\\$<a:b>" (span 0 16 ∷ []) 1 (on 0 (event 4 0 1 ∷ event 1 1 2 ∷ homed 48 (in_text 3 6) 2 3 ∷ event 1 3 6 ∷ homed 80 (in_text 3 6) 6 7 ∷ event 4 7 8 ∷ event 1 8 9 ∷ event 4 9 10 ∷ event 1 10 11 ∷ homed 48 (in_text 12 15) 11 12 ∷ event 1 12 15 ∷ homed 80 (in_text 12 15) 15 16 ∷ [])) ""
-    ∷ given "\\![![[]*a*![)" (span 0 2 ∷ span 2 13 ∷ []) 0 (on 0 (event 4 0 1 ∷ event 1 1 7 ∷ []) ++ on 1 (event 38 7 8 ∷ event 1 8 9 ∷ event 70 9 10 ∷ event 1 10 13 ∷ [])) ""
-    ∷ given "\")_\"_)_))\"\"\"<a@b)<a@b" (span 0 7 ∷ span 7 7 ∷ span 7 12 ∷ span 12 21 ∷ []) 1 (on 0 (event 11 0 1 ∷ event 1 1 3 ∷ event 12 3 4 ∷ event 37 4 5 ∷ event 1 5 6 ∷ event 69 6 7 ∷ []) ++ on 2 (event 1 7 9 ∷ event 11 9 10 ∷ event 11 10 11 ∷ event 12 11 12 ∷ []) ++ on 3 (event 1 12 21 ∷ [])) ""
+    ∷ looking_at 12 (given "\\![![[]*a*![)" (span 0 2 ∷ span 2 13 ∷ []) 0 (on 0 (event 4 0 1 ∷ event 1 1 7 ∷ []) ++ on 1 (event 38 7 8 ∷ event 1 8 9 ∷ event 70 9 10 ∷ event 1 10 13 ∷ [])) "")
+    ∷ looking_at 14 (given "\")_\"_)_))\"\"\"<a@b)<a@b" (span 0 7 ∷ span 7 7 ∷ span 7 12 ∷ span 12 21 ∷ []) 1 (on 0 (event 11 0 1 ∷ event 1 1 3 ∷ event 12 3 4 ∷ event 37 4 5 ∷ event 1 5 6 ∷ event 69 6 7 ∷ []) ++ on 2 (event 1 7 9 ∷ event 11 9 10 ∷ event 11 10 11 ∷ event 12 11 12 ∷ []) ++ on 3 (event 1 12 21 ∷ [])) "")
     ∷ given "\\` ` `a` `" (span 0 8 ∷ span 8 10 ∷ []) 0 (on 0 (event 4 0 1 ∷ event 1 1 3 ∷ event 40 3 4 ∷ event 1 4 5 ∷ event 72 5 6 ∷ event 1 6 7 ∷ event 40 7 8 ∷ []) ++ on 1 (event 1 8 9 ∷ event 72 9 10 ∷ [])) ""
     ∷ given " a `$  a`` " (span 0 2 ∷ span 2 11 ∷ []) 1 (on 0 (event 1 0 3 ∷ []) ++ on 1 (event 40 3 4 ∷ event 1 4 11 ∷ event 72 11 11 ∷ [])) ""
-    ∷ given "][][+}:[^a][^{a]][:" (span 0 19 ∷ []) 0 (on 0 (event 1 0 1 ∷ homed 44 (in_text 4 16) 1 2 ∷ homed 76 (in_text 4 16) 2 17 ∷ event 1 17 19 ∷ [])) ""
-    ∷ given "%]({=\n{}=%}{=a=}{" (span 3 6 ∷ span 8 17 ∷ []) 1 (on 0 (event 1 3 5 ∷ event 2 5 6 ∷ []) ++ on 1 (event 1 8 11 ∷ event 39 11 13 ∷ event 1 13 14 ∷ event 71 14 16 ∷ event 1 16 17 ∷ [])) ""
-    ∷ given "$\\\\``$  `` {=h}" (span 0 15 ∷ []) 0 (on 0 (event 1 0 1 ∷ event 4 1 2 ∷ event 1 2 3 ∷ event 40 3 5 ∷ event 1 5 8 ∷ event 72 8 10 ∷ event 1 10 15 ∷ [])) ""
-    ∷ given "[]*[]*\\*\\***\\*\\*[]" (span 3 4 ∷ span 7 11 ∷ span 11 13 ∷ span 16 18 ∷ []) 1 (on 0 (event 1 3 4 ∷ []) ++ on 1 (event 38 7 8 ∷ event 4 8 9 ∷ event 1 9 10 ∷ event 70 10 11 ∷ []) ++ on 2 (event 1 11 13 ∷ []) ++ on 3 (event 1 16 18 ∷ [])) ""
-    ∷ given "aaa...![ \n\n*][]()][" (span 3 10 ∷ span 10 11 ∷ span 12 19 ∷ []) 0 (on 0 (event 6 3 6 ∷ homed 45 (at_home 2 0 3 0) 6 8 ∷ event 1 8 9 ∷ event 2 9 10 ∷ []) ++ on 1 (event 2 10 11 ∷ []) ++ on 2 (homed 77 (at_home 2 0 3 0) 12 15 ∷ event 1 15 19 ∷ [])) "   "
+    ∷ looking_at 5 (given "][][+}:[^a][^{a]][:" (span 0 19 ∷ []) 0 (on 0 (event 1 0 1 ∷ homed 44 (in_text 4 16) 1 2 ∷ homed 76 (in_text 4 16) 2 17 ∷ event 1 17 19 ∷ [])) "")
+    ∷ looking_at 5 (given "%]({=\n{}=%}{=a=}{" (span 3 6 ∷ span 8 17 ∷ []) 1 (on 0 (event 1 3 5 ∷ event 2 5 6 ∷ []) ++ on 1 (event 1 8 11 ∷ event 39 11 13 ∷ event 1 13 14 ∷ event 71 14 16 ∷ event 1 16 17 ∷ [])) "")
+    ∷ looking_at 1 (given "$\\\\``$  `` {=h}" (span 0 15 ∷ []) 0 (on 0 (event 1 0 1 ∷ event 4 1 2 ∷ event 1 2 3 ∷ event 40 3 5 ∷ event 1 5 8 ∷ event 72 8 10 ∷ event 1 10 15 ∷ [])) "")
+    ∷ looking_at 8 (given "[]*[]*\\*\\***\\*\\*[]" (span 3 4 ∷ span 7 11 ∷ span 11 13 ∷ span 16 18 ∷ []) 1 (on 0 (event 1 3 4 ∷ []) ++ on 1 (event 38 7 8 ∷ event 4 8 9 ∷ event 1 9 10 ∷ event 70 10 11 ∷ []) ++ on 2 (event 1 11 13 ∷ []) ++ on 3 (event 1 16 18 ∷ [])) "")
+    ∷ looking_at 4 (given "aaa...![ \n\n*][]()][" (span 3 10 ∷ span 10 11 ∷ span 12 19 ∷ []) 0 (on 0 (event 6 3 6 ∷ homed 45 (at_home 2 0 3 0) 6 8 ∷ event 1 8 9 ∷ event 2 9 10 ∷ []) ++ on 1 (event 2 10 11 ∷ []) ++ on 2 (homed 77 (at_home 2 0 3 0) 12 15 ∷ event 1 15 19 ∷ [])) "   ")
     ∷ given "[] a\\\n\n]()\\]({`)[]![" (span 3 6 ∷ span 6 7 ∷ span 7 20 ∷ []) 1 (on 0 (event 1 3 4 ∷ event 4 4 5 ∷ event 3 5 6 ∷ []) ++ on 1 (event 2 6 7 ∷ []) ++ on 2 (event 1 7 10 ∷ event 4 10 11 ∷ event 1 11 14 ∷ event 40 14 15 ∷ event 1 15 20 ∷ event 72 20 20 ∷ [])) ""
-    ∷ given "+{+{^::\n\t[\\$[a](b)" (span 2 8 ∷ span 8 18 ∷ []) 0 (on 0 (event 1 2 5 ∷ homed 13 (in_text 6 6) 5 7 ∷ event 2 7 8 ∷ []) ++ on 1 (event 1 8 10 ∷ event 4 10 11 ∷ event 1 11 12 ∷ homed 46 (in_text 16 17) 12 13 ∷ event 1 13 14 ∷ homed 78 (in_text 16 17) 14 18 ∷ [])) ""
-    ∷ given "*  *!** !" (span 0 9 ∷ []) 1 (on 0 (event 1 0 3 ∷ event 38 3 4 ∷ event 1 4 5 ∷ event 70 5 6 ∷ event 1 6 9 ∷ [])) ""
+    ∷ looking_at 8 (given "+{+{^::\n\t[\\$[a](b)" (span 2 8 ∷ span 8 18 ∷ []) 0 (on 0 (event 1 2 5 ∷ homed 13 (in_text 6 6) 5 7 ∷ event 2 7 8 ∷ []) ++ on 1 (event 1 8 10 ∷ event 4 10 11 ∷ event 1 11 12 ∷ homed 46 (in_text 16 17) 12 13 ∷ event 1 13 14 ∷ homed 78 (in_text 16 17) 14 18 ∷ [])) "")
+    ∷ looking_at 1 (given "*  *!** !" (span 0 9 ∷ []) 1 (on 0 (event 1 0 3 ∷ event 38 3 4 ∷ event 1 4 5 ∷ event 70 5 6 ∷ event 1 6 9 ∷ [])) "")
     ∷ given "<a:b>" (span 0 5 ∷ []) 0 (on 0 (homed 48 (in_text 1 4) 0 1 ∷ event 1 1 4 ∷ homed 80 (in_text 1 4) 4 5 ∷ [])) ""
     ∷ given "{a}<a{:b>" (span 0 9 ∷ []) 1 (on 0 (event 1 0 3 ∷ homed 48 (in_text 4 8) 3 4 ∷ event 1 4 8 ∷ homed 80 (in_text 4 8) 8 9 ∷ [])) ""
-    ∷ given " }{ % i_=1 %t%  o=\"\\\"\" " (span 0 6 ∷ span 6 17 ∷ span 17 23 ∷ span 23 23 ∷ []) 0 (on 0 (event 1 0 18 ∷ []) ++ on 2 (event 11 18 19 ∷ event 4 19 20 ∷ event 1 20 21 ∷ event 12 21 22 ∷ event 1 22 23 ∷ [])) ""
+    ∷ looking_at 4 (given " }{ % i_=1 %t%  o=\"\\\"\" " (span 0 6 ∷ span 6 17 ∷ span 17 23 ∷ span 23 23 ∷ []) 0 (on 0 (event 1 0 18 ∷ []) ++ on 2 (event 11 18 19 ∷ event 4 19 20 ∷ event 1 20 21 ∷ event 12 21 22 ∷ event 1 22 23 ∷ [])) "")
     ∷ refused_at "*{#b-c}a {#a" (span 0 12 ∷ []) 1 1
-    ∷ given ".....<a:b>****\\\\" (span 0 7 ∷ span 7 12 ∷ span 12 16 ∷ []) 0 (on 0 (event 6 0 3 ∷ event 1 3 10 ∷ []) ++ on 1 (event 38 10 11 ∷ event 1 11 12 ∷ []) ++ on 2 (event 70 12 13 ∷ event 1 13 14 ∷ event 4 14 15 ∷ event 1 15 16 ∷ [])) ""
+    ∷ looking_at 3 (given ".....<a:b>****\\\\" (span 0 7 ∷ span 7 12 ∷ span 12 16 ∷ []) 0 (on 0 (event 6 0 3 ∷ event 1 3 10 ∷ []) ++ on 1 (event 38 10 11 ∷ event 1 11 12 ∷ []) ++ on 2 (event 70 12 13 ∷ event 1 13 14 ∷ event 4 14 15 ∷ event 1 15 16 ∷ [])) "")
     ∷ refused_at "__a_{ }_a_{ } }_a_{" (span 0 11 ∷ span 11 13 ∷ span 13 17 ∷ span 17 19 ∷ []) 1 4
-    ∷ given "`a`{=b{" (span 0 7 ∷ []) 0 (on 0 (event 40 0 1 ∷ event 1 1 2 ∷ event 72 2 3 ∷ event 1 3 7 ∷ [])) ""
+    ∷ looking_at 1 (given "`a`{=b{" (span 0 7 ∷ []) 0 (on 0 (event 40 0 1 ∷ event 1 1 2 ∷ event 72 2 3 ∷ event 1 3 7 ∷ [])) "")
     ∷ refused_at "=  {a=b}door 12.{a=b" (span 0 20 ∷ []) 1 3
-    ∷ given "$$!'{=h}" (span 0 8 ∷ []) 0 (on 0 (event 1 0 3 ∷ event 10 3 4 ∷ event 1 4 8 ∷ [])) ""
+    ∷ looking_at 1 (given "$$!'{=h}" (span 0 8 ∷ []) 0 (on 0 (event 1 0 3 ∷ event 10 3 4 ∷ event 1 4 8 ∷ [])) "")
     ∷ given "\\\\=" (span 0 3 ∷ []) 1 (on 0 (event 4 0 1 ∷ event 1 1 3 ∷ [])) ""
-    ∷ given "$$[][$$][$${-" (span 0 13 ∷ []) 0 (on 0 (event 1 0 2 ∷ homed 44 (in_text 5 7) 2 3 ∷ homed 76 (in_text 5 7) 3 8 ∷ event 1 8 13 ∷ [])) ""
-    ∷ given "*+}+}$+}*" (span 0 9 ∷ []) 1 (on 0 (event 38 0 1 ∷ event 1 1 8 ∷ event 70 8 9 ∷ [])) ""
-    ∷ given "]b1]}]_a_{]_a_{" (span 0 4 ∷ span 4 15 ∷ []) 0 (on 0 (event 1 0 6 ∷ []) ++ on 1 (event 37 6 7 ∷ event 1 7 8 ∷ event 69 8 9 ∷ event 1 9 11 ∷ event 37 11 12 ∷ event 1 12 13 ∷ event 69 13 14 ∷ event 1 14 15 ∷ [])) ""
+    ∷ looking_at 3 (given "$$[][$$][$${-" (span 0 13 ∷ []) 0 (on 0 (event 1 0 2 ∷ homed 44 (in_text 5 7) 2 3 ∷ homed 76 (in_text 5 7) 3 8 ∷ event 1 8 13 ∷ [])) "")
+    ∷ looking_at 4 (given "*+}+}$+}*" (span 0 9 ∷ []) 1 (on 0 (event 38 0 1 ∷ event 1 1 8 ∷ event 70 8 9 ∷ [])) "")
+    ∷ looking_at 2 (given "]b1]}]_a_{]_a_{" (span 0 4 ∷ span 4 15 ∷ []) 0 (on 0 (event 1 0 6 ∷ []) ++ on 1 (event 37 6 7 ∷ event 1 7 8 ∷ event 69 8 9 ∷ event 1 9 11 ∷ event 37 11 12 ∷ event 1 12 13 ∷ event 69 13 14 ∷ event 1 14 15 ∷ [])) "")
     ∷ given "%%%\\ \n%%%%\\ \n\\ \n" (span 3 6 ∷ span 6 13 ∷ span 15 16 ∷ []) 1 (on 0 (event 4 3 4 ∷ event 3 4 6 ∷ []) ++ on 1 (event 1 6 10 ∷ event 4 10 11 ∷ event 3 11 13 ∷ []) ++ on 2 (event 2 15 16 ∷ [])) ""
-    ∷ given "{'}|[a][b]" (span 0 10 ∷ []) 0 (on 0 (event 10 0 2 ∷ event 1 2 4 ∷ homed 44 (in_text 8 9) 4 5 ∷ event 1 5 6 ∷ homed 76 (in_text 8 9) 6 10 ∷ [])) ""
+    ∷ looking_at 5 (given "{'}|[a][b]" (span 0 10 ∷ []) 0 (on 0 (event 10 0 2 ∷ event 1 2 4 ∷ homed 44 (in_text 8 9) 4 5 ∷ event 1 5 6 ∷ homed 76 (in_text 8 9) 6 10 ∷ [])) "")
     ∷ given "${." (span 0 3 ∷ []) 1 (on 0 (event 1 0 3 ∷ [])) ""
     ∷ given "*\nb1b1" (span 0 6 ∷ []) 0 (on 0 (event 1 0 1 ∷ event 2 1 2 ∷ event 1 2 6 ∷ [])) ""
-    ∷ given ".![a]{" (span 0 6 ∷ []) 1 (on 0 (event 1 0 6 ∷ [])) ""
-    ∷ given "^}[a][b]%{\"" (span 0 11 ∷ []) 0 (on 0 (event 1 0 2 ∷ homed 44 (in_text 6 7) 2 3 ∷ event 1 3 4 ∷ homed 76 (in_text 6 7) 4 8 ∷ event 1 8 9 ∷ event 11 9 11 ∷ [])) ""
+    ∷ looking_at 1 (given ".![a]{" (span 0 6 ∷ []) 1 (on 0 (event 1 0 6 ∷ [])) "")
+    ∷ looking_at 2 (given "^}[a][b]%{\"" (span 0 11 ∷ []) 0 (on 0 (event 1 0 2 ∷ homed 44 (in_text 6 7) 2 3 ∷ event 1 3 4 ∷ homed 76 (in_text 6 7) 4 8 ∷ event 1 8 9 ∷ event 11 9 11 ∷ [])) "")
     ∷ refused_at "{% a %}'a'{'a'{" (span 0 15 ∷ []) 1 0
-    ∷ given "}<}[a][b]" (span 0 0 ∷ span 0 8 ∷ span 8 9 ∷ []) 0 (on 1 (event 1 0 3 ∷ homed 44 (at_home 2 0 1 0) 3 4 ∷ event 1 4 5 ∷ homed 76 (at_home 2 0 1 0) 5 9 ∷ [])) "b"
+    ∷ looking_at 2 (given "}<}[a][b]" (span 0 0 ∷ span 0 8 ∷ span 8 9 ∷ []) 0 (on 1 (event 1 0 3 ∷ homed 44 (at_home 2 0 1 0) 3 4 ∷ event 1 4 5 ∷ homed 76 (at_home 2 0 1 0) 5 9 ∷ [])) "b")
     ∷ given "[a]*}---\t<a:b>" (span 2 14 ∷ []) 1 (on 0 (event 1 2 5 ∷ event 8 5 8 ∷ event 1 8 9 ∷ homed 48 (in_text 10 13) 9 10 ∷ event 1 10 13 ∷ homed 80 (in_text 10 13) 13 14 ∷ [])) ""
-    ∷ given "{=h}=. `" (span 0 3 ∷ span 3 5 ∷ span 5 8 ∷ []) 0 (on 0 (event 1 0 7 ∷ []) ++ on 2 (event 40 7 8 ∷ event 72 8 8 ∷ [])) ""
+    ∷ looking_at 2 (given "{=h}=. `" (span 0 3 ∷ span 3 5 ∷ span 5 8 ∷ []) 0 (on 0 (event 1 0 7 ∷ []) ++ on 2 (event 40 7 8 ∷ event 72 8 8 ∷ [])) "")
     ∷ refused_at "{.a}{.a}{a=\"{a=\"" (span 0 0 ∷ span 0 3 ∷ span 3 6 ∷ span 6 7 ∷ span 7 16 ∷ []) 1 0
     ∷ given "{\\ \n" (span 0 4 ∷ span 4 4 ∷ []) 0 (on 0 (event 1 0 1 ∷ event 4 1 2 ∷ event 3 2 4 ∷ [])) ""
-    ∷ given " [[]`](![[[a]({a)`]](" (span 0 1 ∷ span 1 2 ∷ span 2 4 ∷ span 4 13 ∷ span 13 17 ∷ span 17 19 ∷ span 19 21 ∷ []) 1 (on 0 (event 1 0 4 ∷ []) ++ on 3 (event 40 4 5 ∷ event 1 5 17 ∷ []) ++ on 5 (event 72 17 18 ∷ event 1 18 21 ∷ [])) ""
-    ∷ given "[a](b){*a*{[a](b){" (span 0 2 ∷ span 2 9 ∷ span 9 15 ∷ span 15 18 ∷ []) 0 (on 0 (homed 46 (in_text 4 5) 0 1 ∷ event 1 1 2 ∷ []) ++ on 1 (homed 78 (in_text 4 5) 2 6 ∷ event 1 6 11 ∷ []) ++ on 2 (homed 46 (at_home 2 0 1 1) 11 12 ∷ event 1 12 13 ∷ homed 78 (at_home 2 0 1 1) 13 17 ∷ []) ++ on 3 (event 1 17 18 ∷ [])) "b"
-    ∷ given "*a*{[a][b{]([a][b{*a*{" (span 0 22 ∷ []) 1 (on 0 (event 38 0 1 ∷ event 1 1 2 ∷ event 70 2 3 ∷ event 1 3 4 ∷ homed 44 (in_text 8 10) 4 5 ∷ event 1 5 6 ∷ homed 76 (in_text 8 10) 6 11 ∷ event 1 11 22 ∷ [])) ""
-    ∷ given "\\\\<\\{<\\\\<\\{`a`{=b{" (span 0 18 ∷ []) 0 (on 0 (event 4 0 1 ∷ event 1 1 3 ∷ event 4 3 4 ∷ event 1 4 6 ∷ event 4 6 7 ∷ event 1 7 9 ∷ event 4 9 10 ∷ event 1 10 11 ∷ event 40 11 12 ∷ event 1 12 13 ∷ event 72 13 14 ∷ event 1 14 18 ∷ [])) ""
-    ∷ given "<a@b^{\\ \n-::\\$ `` {*" (span 0 7 ∷ span 7 8 ∷ span 8 14 ∷ span 14 14 ∷ span 14 20 ∷ []) 1 (on 0 (event 1 0 8 ∷ []) ++ on 2 (event 2 8 9 ∷ event 1 9 10 ∷ homed 13 (in_text 11 11) 10 12 ∷ event 4 12 13 ∷ event 1 13 15 ∷ []) ++ on 4 (event 40 15 17 ∷ event 1 17 20 ∷ event 72 20 20 ∷ [])) ""
-    ∷ given "](![*`...* `*][][]" (span 0 18 ∷ []) 0 (on 0 (event 1 0 2 ∷ homed 45 (at_home 2 0 5 0) 2 4 ∷ event 38 4 5 ∷ event 40 5 6 ∷ event 1 6 11 ∷ event 72 11 12 ∷ event 70 12 13 ∷ homed 77 (at_home 2 0 5 0) 13 16 ∷ event 1 16 18 ∷ [])) "...* "
+    ∷ looking_at 3 (given " [[]`](![[[a]({a)`]](" (span 0 1 ∷ span 1 2 ∷ span 2 4 ∷ span 4 13 ∷ span 13 17 ∷ span 17 19 ∷ span 19 21 ∷ []) 1 (on 0 (event 1 0 4 ∷ []) ++ on 3 (event 40 4 5 ∷ event 1 5 17 ∷ []) ++ on 5 (event 72 17 18 ∷ event 1 18 21 ∷ [])) "")
+    ∷ looking_at 11 (given "[a](b){*a*{[a](b){" (span 0 2 ∷ span 2 9 ∷ span 9 15 ∷ span 15 18 ∷ []) 0 (on 0 (homed 46 (in_text 4 5) 0 1 ∷ event 1 1 2 ∷ []) ++ on 1 (homed 78 (in_text 4 5) 2 6 ∷ event 1 6 11 ∷ []) ++ on 2 (homed 46 (at_home 2 0 1 1) 11 12 ∷ event 1 12 13 ∷ homed 78 (at_home 2 0 1 1) 13 17 ∷ []) ++ on 3 (event 1 17 18 ∷ [])) "b")
+    ∷ looking_at 11 (given "*a*{[a][b{]([a][b{*a*{" (span 0 22 ∷ []) 1 (on 0 (event 38 0 1 ∷ event 1 1 2 ∷ event 70 2 3 ∷ event 1 3 4 ∷ homed 44 (in_text 8 10) 4 5 ∷ event 1 5 6 ∷ homed 76 (in_text 8 10) 6 11 ∷ event 1 11 22 ∷ [])) "")
+    ∷ looking_at 1 (given "\\\\<\\{<\\\\<\\{`a`{=b{" (span 0 18 ∷ []) 0 (on 0 (event 4 0 1 ∷ event 1 1 3 ∷ event 4 3 4 ∷ event 1 4 6 ∷ event 4 6 7 ∷ event 1 7 9 ∷ event 4 9 10 ∷ event 1 10 11 ∷ event 40 11 12 ∷ event 1 12 13 ∷ event 72 13 14 ∷ event 1 14 18 ∷ [])) "")
+    ∷ looking_at 4 (given "<a@b^{\\ \n-::\\$ `` {*" (span 0 7 ∷ span 7 8 ∷ span 8 14 ∷ span 14 14 ∷ span 14 20 ∷ []) 1 (on 0 (event 1 0 8 ∷ []) ++ on 2 (event 2 8 9 ∷ event 1 9 10 ∷ homed 13 (in_text 11 11) 10 12 ∷ event 4 12 13 ∷ event 1 13 15 ∷ []) ++ on 4 (event 40 15 17 ∷ event 1 17 20 ∷ event 72 20 20 ∷ [])) "")
+    ∷ looking_at 5 (given "](![*`...* `*][][]" (span 0 18 ∷ []) 0 (on 0 (event 1 0 2 ∷ homed 45 (at_home 2 0 5 0) 2 4 ∷ event 38 4 5 ∷ event 40 5 6 ∷ event 1 6 11 ∷ event 72 11 12 ∷ event 70 12 13 ∷ homed 77 (at_home 2 0 5 0) 13 16 ∷ event 1 16 18 ∷ [])) "...* ")
     ∷ refused_at "{ }|...*}\"$" (span 0 11 ∷ []) 1 0
-    ∷ given ":\\{-`a`{{=a=}{b1" (span 0 16 ∷ []) 0 (on 0 (event 1 0 1 ∷ event 4 1 2 ∷ event 1 2 4 ∷ event 40 4 5 ∷ event 1 5 6 ∷ event 72 6 7 ∷ event 1 7 8 ∷ event 39 8 10 ∷ event 1 10 11 ∷ event 71 11 13 ∷ event 1 13 16 ∷ [])) ""
+    ∷ looking_at 1 (given ":\\{-`a`{{=a=}{b1" (span 0 16 ∷ []) 0 (on 0 (event 1 0 1 ∷ event 4 1 2 ∷ event 1 2 4 ∷ event 40 4 5 ∷ event 1 5 6 ∷ event 72 6 7 ∷ event 1 7 8 ∷ event 39 8 10 ∷ event 1 10 11 ∷ event 71 11 13 ∷ event 1 13 16 ∷ [])) "")
     ∷ given " `" (span 0 2 ∷ []) 1 (on 0 (event 1 0 1 ∷ event 40 1 2 ∷ event 72 2 2 ∷ [])) ""
-    ∷ given "\\{\\{{=a=}{{=a=}{" (span 0 16 ∷ []) 0 (on 0 (event 4 0 1 ∷ event 1 1 2 ∷ event 4 2 3 ∷ event 1 3 4 ∷ event 39 4 6 ∷ event 1 6 7 ∷ event 71 7 9 ∷ event 1 9 10 ∷ event 39 10 12 ∷ event 1 12 13 ∷ event 71 13 15 ∷ event 1 15 16 ∷ [])) ""
-    ∷ given "[a][b]{=[a][b]" (span 0 14 ∷ []) 1 (on 0 (homed 44 (in_text 4 5) 0 1 ∷ event 1 1 2 ∷ homed 76 (in_text 4 5) 2 6 ∷ event 1 6 8 ∷ homed 44 (at_home 1 12 13 1) 8 9 ∷ event 1 9 10 ∷ homed 76 (at_home 1 12 13 1) 10 14 ∷ [])) ""
-    ∷ given "-{*a*}{`{" (span 0 9 ∷ []) 0 (on 0 (event 1 0 1 ∷ event 38 1 3 ∷ event 1 3 4 ∷ event 70 4 6 ∷ event 1 6 7 ∷ event 40 7 8 ∷ event 1 8 9 ∷ event 72 9 9 ∷ [])) ""
-    ∷ given "}\"@}{+\"}[a][a]}@\"@@}  " (span 3 22 ∷ span 22 22 ∷ []) 1 (on 0 (event 1 3 6 ∷ event 12 6 8 ∷ homed 44 (in_text 12 13) 8 9 ∷ event 1 9 10 ∷ homed 76 (in_text 12 13) 10 14 ∷ event 1 14 16 ∷ event 11 16 17 ∷ event 1 17 22 ∷ [])) ""
+    ∷ looking_at 2 (given "\\{\\{{=a=}{{=a=}{" (span 0 16 ∷ []) 0 (on 0 (event 4 0 1 ∷ event 1 1 2 ∷ event 4 2 3 ∷ event 1 3 4 ∷ event 39 4 6 ∷ event 1 6 7 ∷ event 71 7 9 ∷ event 1 9 10 ∷ event 39 10 12 ∷ event 1 12 13 ∷ event 71 13 15 ∷ event 1 15 16 ∷ [])) "")
+    ∷ looking_at 5 (given "[a][b]{=[a][b]" (span 0 14 ∷ []) 1 (on 0 (homed 44 (in_text 4 5) 0 1 ∷ event 1 1 2 ∷ homed 76 (in_text 4 5) 2 6 ∷ event 1 6 8 ∷ homed 44 (at_home 1 12 13 1) 8 9 ∷ event 1 9 10 ∷ homed 76 (at_home 1 12 13 1) 10 14 ∷ [])) "")
+    ∷ looking_at 1 (given "-{*a*}{`{" (span 0 9 ∷ []) 0 (on 0 (event 1 0 1 ∷ event 38 1 3 ∷ event 1 3 4 ∷ event 70 4 6 ∷ event 1 6 7 ∷ event 40 7 8 ∷ event 1 8 9 ∷ event 72 9 9 ∷ [])) "")
+    ∷ looking_at 8 (given "}\"@}{+\"}[a][a]}@\"@@}  " (span 3 22 ∷ span 22 22 ∷ []) 1 (on 0 (event 1 3 6 ∷ event 12 6 8 ∷ homed 44 (in_text 12 13) 8 9 ∷ event 1 9 10 ∷ homed 76 (in_text 12 13) 10 14 ∷ event 1 14 16 ∷ event 11 16 17 ∷ event 1 17 22 ∷ [])) "")
     ∷ given ".{.(@(..>>@..>(>.." (span 0 8 ∷ span 8 11 ∷ span 11 15 ∷ span 15 17 ∷ span 17 18 ∷ span 18 18 ∷ []) 0 (on 0 (event 1 0 18 ∷ [])) ""
     ∷ given "##{a=\"b" (span 1 3 ∷ span 3 7 ∷ []) 1 (on 0 (event 1 1 5 ∷ []) ++ on 1 (event 11 5 6 ∷ event 1 6 7 ∷ [])) ""
     ∷ given "......" (span 0 6 ∷ []) 0 (on 0 (event 6 0 3 ∷ event 6 3 6 ∷ [])) ""
-    ∷ given "\"a\"{{{*a*{*a*{" (span 0 14 ∷ []) 1 (on 0 (event 11 0 1 ∷ event 1 1 2 ∷ event 12 2 3 ∷ event 1 3 8 ∷ event 38 8 9 ∷ event 1 9 12 ∷ event 70 12 13 ∷ event 1 13 14 ∷ [])) ""
-    ∷ given "*a*{a](*a*{](](" (span 0 9 ∷ span 9 10 ∷ span 10 10 ∷ span 10 15 ∷ []) 0 (on 0 (event 38 0 1 ∷ event 1 1 2 ∷ event 70 2 3 ∷ event 1 3 7 ∷ event 38 7 8 ∷ event 1 8 9 ∷ []) ++ on 1 (event 70 9 10 ∷ []) ++ on 3 (event 1 10 15 ∷ [])) ""
-    ∷ given "\\\nb[a](b)::a:" (span 0 9 ∷ span 10 13 ∷ []) 1 (on 0 (event 4 0 1 ∷ event 3 1 2 ∷ event 1 2 3 ∷ homed 46 (in_text 7 8) 3 4 ∷ event 1 4 5 ∷ homed 78 (in_text 7 8) 5 9 ∷ []) ++ on 1 (homed 13 (in_text 11 12) 10 13 ∷ [])) ""
-    ∷ given "{^\"{^" (span 0 5 ∷ span 5 5 ∷ []) 0 (on 0 (event 1 0 2 ∷ event 11 2 3 ∷ event 1 3 5 ∷ [])) ""
-    ∷ given "{#aR-07\\[a{][]{a}" (span 0 17 ∷ []) 1 (on 0 (event 1 0 7 ∷ event 4 7 8 ∷ event 1 8 17 ∷ [])) ""
+    ∷ looking_at 7 (given "\"a\"{{{*a*{*a*{" (span 0 14 ∷ []) 1 (on 0 (event 11 0 1 ∷ event 1 1 2 ∷ event 12 2 3 ∷ event 1 3 8 ∷ event 38 8 9 ∷ event 1 9 12 ∷ event 70 12 13 ∷ event 1 13 14 ∷ [])) "")
+    ∷ looking_at 2 (given "*a*{a](*a*{](](" (span 0 9 ∷ span 9 10 ∷ span 10 10 ∷ span 10 15 ∷ []) 0 (on 0 (event 38 0 1 ∷ event 1 1 2 ∷ event 70 2 3 ∷ event 1 3 7 ∷ event 38 7 8 ∷ event 1 8 9 ∷ []) ++ on 1 (event 70 9 10 ∷ []) ++ on 3 (event 1 10 15 ∷ [])) "")
+    ∷ looking_at 2 (given "\\\nb[a](b)::a:" (span 0 9 ∷ span 10 13 ∷ []) 1 (on 0 (event 4 0 1 ∷ event 3 1 2 ∷ event 1 2 3 ∷ homed 46 (in_text 7 8) 3 4 ∷ event 1 4 5 ∷ homed 78 (in_text 7 8) 5 9 ∷ []) ++ on 1 (homed 13 (in_text 11 12) 10 13 ∷ [])) "")
+    ∷ looking_at 3 (given "{^\"{^" (span 0 5 ∷ span 5 5 ∷ []) 0 (on 0 (event 1 0 2 ∷ event 11 2 3 ∷ event 1 3 5 ∷ [])) "")
+    ∷ looking_at 1 (given "{#aR-07\\[a{][]{a}" (span 0 17 ∷ []) 1 (on 0 (event 1 0 7 ∷ event 4 7 8 ∷ event 1 8 17 ∷ [])) "")
     ∷ refused_at "-{a{% a %}:a{<[a](b{" (span 3 6 ∷ span 6 13 ∷ span 15 19 ∷ span 20 20 ∷ []) 0 3
-    ∷ given "$${\\ [a](b)!$$>+" (span 0 16 ∷ []) 1 (on 0 (event 1 0 3 ∷ event 4 3 4 ∷ event 5 4 5 ∷ homed 46 (in_text 9 10) 5 6 ∷ event 1 6 7 ∷ homed 78 (in_text 9 10) 7 11 ∷ event 1 11 16 ∷ [])) ""
-    ∷ given "}{*a*}{_`<[" (span 1 11 ∷ []) 0 (on 0 (event 38 1 3 ∷ event 1 3 4 ∷ event 70 4 6 ∷ event 1 6 8 ∷ event 40 8 9 ∷ event 1 9 11 ∷ event 72 11 11 ∷ [])) ""
+    ∷ looking_at 2 (given "$${\\ [a](b)!$$>+" (span 0 16 ∷ []) 1 (on 0 (event 1 0 3 ∷ event 4 3 4 ∷ event 5 4 5 ∷ homed 46 (in_text 9 10) 5 6 ∷ event 1 6 7 ∷ homed 78 (in_text 9 10) 7 11 ∷ event 1 11 16 ∷ [])) "")
+    ∷ looking_at 1 (given "}{*a*}{_`<[" (span 1 11 ∷ []) 0 (on 0 (event 38 1 3 ∷ event 1 3 4 ∷ event 70 4 6 ∷ event 1 6 8 ∷ event 40 8 9 ∷ event 1 9 11 ∷ event 72 11 11 ∷ [])) "")
     ∷ given "++*}``+}+``++}``*}" (span 0 18 ∷ []) 1 (on 0 (event 1 0 4 ∷ event 40 4 6 ∷ event 1 6 9 ∷ event 72 9 11 ∷ event 1 11 14 ∷ event 40 14 16 ∷ event 1 16 18 ∷ event 72 18 18 ∷ [])) ""
-    ∷ given "{#{#[a](b){[a](b){" (span 0 11 ∷ span 11 18 ∷ span 18 18 ∷ []) 0 (on 0 (event 1 0 4 ∷ homed 46 (in_text 8 9) 4 5 ∷ event 1 5 6 ∷ homed 78 (in_text 8 9) 6 10 ∷ event 1 10 11 ∷ []) ++ on 1 (homed 46 (at_home 1 15 16 1) 11 12 ∷ event 1 12 13 ∷ homed 78 (at_home 1 15 16 1) 13 17 ∷ event 1 17 18 ∷ [])) ""
+    ∷ looking_at 4 (given "{#{#[a](b){[a](b){" (span 0 11 ∷ span 11 18 ∷ span 18 18 ∷ []) 0 (on 0 (event 1 0 4 ∷ homed 46 (in_text 8 9) 4 5 ∷ event 1 5 6 ∷ homed 78 (in_text 8 9) 6 10 ∷ event 1 10 11 ∷ []) ++ on 1 (homed 46 (at_home 1 15 16 1) 11 12 ∷ event 1 12 13 ∷ homed 78 (at_home 1 15 16 1) 13 17 ∷ event 1 17 18 ∷ [])) "")
     ∷ given "----](" (span 0 6 ∷ []) 1 (on 0 (event 7 0 2 ∷ event 7 2 4 ∷ event 1 4 6 ∷ [])) ""
     ∷ []

@@ -27,10 +27,11 @@ use Rattle.reading.specs.Machine.{View, Sheet, State, Turn, Here}
 use Rattle.reading.specs.Tokens.{role_of, is_caret, plain, bracket}
 use Rattle.reading.specs.Containers.{container}
 use Rattle.reading.specs.Reading.{angle, colon, noted, bracketed, braced, outside, by_place, here_at, on_token, unless, step}
+use Rattle.reading.specs.Looks.{seeking}
 use Rattle.reading.specs.Walked.{Of}
 use Rattle.reading.proofs.Removed.{removes_in, removes_on, step_removes}
 use Rattle.reading.proofs.Choose.{choose}
-use Rattle.reading.proofs.Good.{Out, Good, GoodBy, good-few}
+use Rattle.reading.proofs.Good.{Out, Good, GoodBy, good-few, out-looking}
 use Rattle.reading.proofs.Tables.{MarksOk, RoleOk, plain_ok, bracket-ok, role-ok}
 use Rattle.reading.proofs.Places.{HereOk, here-ok, here-with, peek-sound, peek-place, Taken, peeked-taken, Fine}
 use Rattle.reading.proofs.Containing.{container-fine}
@@ -184,7 +185,8 @@ module _ (Loose : ℕ → Type 0) (text : List ℕ) (x : Sheet) (v : View) (m : 
           → ((i : ℕ) → Of (removes_in v there t w a.state) i → Loose i)
           → Held Loose text v m (suc a.cursor.pos) (by_place x v there t w a.state)
       unfolding by_place GoodBy removes_in
-      by-held None is o loose = outside-held a.state is a.cursor.pos o there.to there.cursor ok (role_of t.kind) (role-ok t.kind)
+      by-held None is o loose =
+          outside-held (seeking v there t a.state) is a.cursor.pos (out-looking Loose text _ _ _ a.state o) there.to there.cursor ok (role_of t.kind) (role-ok t.kind)
       by-held (Some w) is o loose = held _ _ (in-fine Loose text w v shows m there ok a.state is o x.rules t loose)
 
       by-blank : (w : Option Verbatim) → a.state.inside ≡ w → GoodBy Loose text w (v.base + a.cursor.pos) (m + a.cursor.pos) a.state

@@ -19,6 +19,7 @@ use Rattle.reading.specs.Tokens.{role_of}
 use Rattle.reading.specs.Containers.{close_as, tried, opens_or}
 use Rattle.reading.specs.Blocks.{everywhere}
 use Rattle.reading.specs.Reading.{with_refused, braced, by_place, on_token, step, unless, steps, resumed}
+use Rattle.reading.specs.Looks.{seeking}
 use Rattle.reading.proofs.Ends.{seek-none}
 use Rattle.reading.proofs.Spans.{Any}
 use Rattle.reading.proofs.Places.{HereOk, here-ok}
@@ -81,11 +82,12 @@ module _ (x : Sheet) (v : View) where
             ∙ ap (λ (i : ℕ). record { cursor = h.cursor; state = put v str i h.cursor.pos s }) from
             ∙ ap (λ (j : ℕ). record { cursor = h.cursor; state = put v str h.from j s }) ok.place))
 
-    by_one : (h : Here) → HereOk v h → (t : Token) (w : Option Verbatim) → One (by_place x v h t w s) (by_place y v h t w s)
-    unfolding by_place close_as
-    by_one h ok t None =
-        each-ruled x y v s One (λ a k. inl (ap (λ z. z.0) k ∙ un, refl)) (λ h o t os. inl (un, refl)) (λ h. inl (un, refl)) h (λ c. at-brace h ok) (role_of t.kind)
-    by_one h ok t (Some w) = inl (ap (λ z. z.0) (in_kept v h s x.rules t w) ∙ un, refl)
+  by_one : (s : State) → s.refused ≡ None → (h : Here) → HereOk v h → (t : Token) (w : Option Verbatim) → One (by_place x v h t w s) (by_place y v h t w s)
+  unfolding by_place close_as
+  by_one s un h ok t None =
+      each-ruled x y v (seeking v h t s) One (λ a k. inl (ap (λ z. z.0) k ∙ un, refl)) (λ h o t os. inl (un, refl)) (λ h. inl (un, refl)) h
+      (λ c. at-brace (seeking v h t s) un h ok) (role_of t.kind)
+  by_one s un h ok t (Some w) = inl (ap (λ z. z.0) (in_kept v h s x.rules t w) ∙ un, refl)
 
   one : (a : Turn) → Sound v.bytes a.cursor → a.state.refused ≡ None → One (step x v a) (step y v a)
   unfolding on_token

@@ -7,6 +7,7 @@ pub mod Atoms
 pub mod Verbatim
 pub mod Labels
 pub mod Containers
+pub mod Looks
 pub mod Naming
 pub mod Blocks
 pub mod Reading

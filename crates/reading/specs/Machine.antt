@@ -52,7 +52,7 @@ pub record Sheet : Type 0 where
   pub block : ℕ → Bool
 
 -- the state: events, the oldest first; openers, the newest first; the open verbatim; the newest event; the label bytes built, and whether
--- all of them fitted; the number of the next link that closes; the first attribute block
+-- all of them fitted; the number of the next link that closes; the first attribute block; the opener records looked at
 pub record State : Type 0 where
   pub queue : List Event
   pub openers : List Opener
@@ -62,6 +62,7 @@ pub record State : Type 0 where
   pub fits : Bool
   pub links : Link
   pub refused : Option Place
+  pub looks : ℕ
 
 -- the state and the lexer's cursor, between two tokens
 pub record Turn : Type 0 where
@@ -117,6 +118,7 @@ noting q l s =
       fits = s.fits;
       links = s.links;
       refused = s.refused;
+      looks = s.looks;
     }
 
 abbrev pub with_queue : List Event → State → State
@@ -141,6 +143,7 @@ with_openers os s =
       fits = s.fits;
       links = s.links;
       refused = s.refused;
+      looks = s.looks;
     }
 
 abbrev pub with_inside : Option Verbatim → State → State
@@ -154,6 +157,7 @@ with_inside w s =
       fits = s.fits;
       links = s.links;
       refused = s.refused;
+      looks = s.looks;
     }
 
 -- one more link has closed: the label bytes behind it, and whether all of them fitted
@@ -168,4 +172,20 @@ with_link bs f s =
       fits = f;
       links = link (suc s.links.0);
       refused = s.refused;
+      looks = s.looks;
+    }
+
+-- so many more opener records were looked at
+abbrev pub looking : ℕ → State → State
+looking n s =
+    record {
+      queue = s.queue;
+      openers = s.openers;
+      inside = s.inside;
+      last = s.last;
+      labels = s.labels;
+      fits = s.fits;
+      links = s.links;
+      refused = s.refused;
+      looks = s.looks + n;
     }

@@ -50,12 +50,12 @@ counting n = elim (leb n label_limit) [ true ↦ n | false ↦ label_limit ]
 abbrev pub label_room : List ℕ → ℕ
 label_room room = counting (length room)
 
--- the answers: nothing is handed out; or so many events and label bytes are
+-- the answers: nothing is handed out; or so many events and label bytes are, and so many opener records were looked at
 abbrev pub refusal : ℕ → ℕ → Answer
-refusal code at = record { code = code; place = at; events = 0; labels = 0 }
+refusal code at = record { code = code; place = at; events = 0; labels = 0; looks = 0 }
 
-abbrev pub acceptance : ℕ → ℕ → Answer
-acceptance events labels = record { code = 0; place = 0; events = events; labels = labels }
+abbrev pub acceptance : ℕ → ℕ → ℕ → Answer
+acceptance events labels looks = record { code = 0; place = 0; events = events; labels = labels; looks = looks }
 
 -- a refusal, with the rooms that it leaves
 abbrev pub refuses : ℕ → ℕ → Rooms → Outcome
@@ -86,12 +86,12 @@ numbers [] = []
 numbers (r ∷ rs) = numbers_of r ++ numbers rs
 
 -- 9: does the event room hold all the events? The last question. Each is handed out with its line
-unfoldable pub handed_out : List Line → List Event → List ℕ → Rooms → Outcome
-handed_out ls es labels rooms =
+unfoldable pub handed_out : List Line → List Event → List ℕ → ℕ → Rooms → Outcome
+handed_out ls es labels looks rooms =
     elim (leb (length es) (length rooms.events / event_numbers)) [
       | false ↦ refuses 9 0 (cleared rooms)
       | true ↦ record {
-        answer = acceptance (length es) (length labels);
+        answer = acceptance (length es) (length labels) looks;
         rooms = record {
           events = filled (numbers (located ls es)) rooms.events;
           queue = zeros rooms.queue;
@@ -105,7 +105,7 @@ handed_out ls es labels rooms =
 unfoldable pub judged : List Line → Option Place → Bool → State → Rooms → Outcome
 judged ls (Some p) fits s rooms = refuses 7 p.0 (cleared rooms)
 judged ls None false s rooms = refuses 8 0 (cleared rooms)
-judged ls None true s rooms = handed_out ls (drain s.queue) s.labels rooms
+judged ls None true s rooms = handed_out ls (drain s.queue) s.labels s.looks rooms
 
 -- the whole answer, and the rooms at its end, of a sheet with blocks at some places
 unfoldable pub outcome_with : (ℕ → Bool) → List ℕ → List Line → ℕ → Rooms → Outcome

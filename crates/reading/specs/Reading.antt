@@ -18,6 +18,7 @@ use Rattle.reading.specs.Tokens.{role_of, is_caret, plain, bracket}
 use Rattle.reading.specs.Atoms.{dashes, dots, autolinked, named}
 use Rattle.reading.specs.Verbatim.{opens_verbatim, in_verbatim, moved_on, flag_of, ended_at}
 use Rattle.reading.specs.Containers.{container}
+use Rattle.reading.specs.Looks.{seeks_by, look, seeking}
 use Rattle.reading.specs.Blocks.{block_at, everywhere}
 
 abbrev pub with_refused : Option Place → State → State
@@ -31,6 +32,7 @@ with_refused r s =
       fits = s.fits;
       links = s.links;
       refused = r;
+      looks = s.looks;
     }
 
 -- an attribute block: the sheet is refused, and no later step is taken
@@ -83,9 +85,13 @@ outside x v h role.Hyphens s =
     ]
 outside x v h (role.Other m) s = container x v h m s
 
+-- the same, with what it looks at
+abbrev pub outside_looking : Sheet → View → Here → Role → State → Turn
+outside_looking x v h r s = outside x v h r (look (seeks_by v h r) s)
+
 -- a token, inside verbatim or outside
 unfoldable pub by_place : Sheet → View → Here → Token → Option Verbatim → State → Turn
-by_place x v h t None s = outside x v h (role_of t.kind) s
+by_place x v h t None s = outside x v h (role_of t.kind) (seeking v h t s)
 by_place x v h t (Some w) s = in_verbatim x.rules v h t w s
 
 -- where a token stands that was taken at a cursor
@@ -140,6 +146,7 @@ start =
       fits = true;
       links = link 0;
       refused = None;
+      looks = 0;
     }
 
 -- the last line's end

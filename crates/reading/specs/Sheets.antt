@@ -11,7 +11,7 @@ use Rattle.reading.specs.Reading.{sheet}
 use Rattle.reading.specs.Dropped.{dropped}
 use Rattle.reading.specs.Questions.{Rooms, Outcome, total, numbers, filled, zeros, outcome}
 
--- a sheet, and what is to be answered: code and place, the events, and the label room's bytes
+-- a sheet, and what is to be answered: code and place, the events, the label room's bytes, and how many opener records are looked at
 pub record Row : Type 0 where
   pub text : String
   pub lines : List Line
@@ -20,6 +20,7 @@ pub record Row : Type 0 where
   pub at : ℕ
   pub events : List Located
   pub labels : String
+  pub looks : ℕ
 
 -- rooms as lent: of exact size, with 16 bytes for labels, and not clear
 abbrev pub rooms : Row → Rooms
@@ -38,7 +39,7 @@ found r = outcome (bytes r.text) r.lines r.reading (rooms r)
 abbrev pub expected : Row → Outcome
 expected r =
     record {
-      answer = record { code = r.code; place = r.at; events = length r.events; labels = length (bytes r.labels) };
+      answer = record { code = r.code; place = r.at; events = length r.events; labels = length (bytes r.labels); looks = r.looks };
       rooms = record {
         events = filled (numbers r.events) (rooms r).events;
         queue = zeros (rooms r).queue;
@@ -65,7 +66,7 @@ on line es = map (λ (e : Event). record { event = e; line = line }) es
 -- a sheet that is read
 abbrev pub given : String → List Line → ℕ → List Located → String → Row
 given text lines reading events labels =
-    record { text = text; lines = lines; reading = reading; code = 0; at = 0; events = events; labels = labels }
+    record { text = text; lines = lines; reading = reading; code = 0; at = 0; events = events; labels = labels; looks = 0 }
 
 -- a text that is one line, in reading 0
 abbrev pub one_line : String → List Event → String → Row
@@ -74,4 +75,18 @@ one_line text events labels = given text (span 0 (length (bytes text)) ∷ []) 0
 -- an attribute block
 abbrev pub refused_at : String → List Line → ℕ → ℕ → Row
 refused_at text lines reading at =
-    record { text = text; lines = lines; reading = reading; code = 7; at = at; events = []; labels = "" }
+    record { text = text; lines = lines; reading = reading; code = 7; at = at; events = []; labels = ""; looks = 0 }
+
+-- so many opener records are looked at
+abbrev pub looking_at : ℕ → Row → Row
+looking_at n r =
+    record {
+      text = r.text;
+      lines = r.lines;
+      reading = r.reading;
+      code = r.code;
+      at = r.at;
+      events = r.events;
+      labels = r.labels;
+      looks = n;
+    }

@@ -1,5 +1,5 @@
 -- Walked events (document 01, "Walked events"): what is to hold of the events of every sheet that is read.
-use Rattle.std.specs.Prelude.{ℕ, ◌+◌, ◌-◌, ◌≤◌, ◌<◌, ◌≡◌, List, [], ◌∷◌, map, Bool, true, false, ◌&&◌, ◌⊎◌, leb, ltb, length, get_or}
+use Rattle.std.specs.Prelude.{ℕ, ◌+◌, ◌-◌, ◌*◌, ◌≤◌, ◌<◌, ◌≡◌, List, [], ◌∷◌, map, Bool, true, false, ◌&&◌, ◌⊎◌, leb, ltb, length, get_or}
 use Rattle.classes.specs.Classes.{bit, blank}
 use Rattle.reading.specs.declared.Line.{Line}
 use Rattle.reading.specs.declared.Event.{Event}
@@ -103,6 +103,8 @@ pub record Accepted (text : List ℕ) (ls : List Line) (reading : ℕ) (rooms : 
   pub whole : Whole (sheet text ls reading (label_room rooms.labels)) ls
   pub count : o.answer.events ≡ length (events (sheet text ls reading (label_room rooms.labels)) ls)
   pub handed : o.rooms.events ≡ filled (numbers (located ls (events (sheet text ls reading (label_room rooms.labels)) ls))) rooms.events
+  -- how long the search gets at most: N times (N - 1), halved
+  pub search : 2 * o.answer.looks ≤ total ls * (total ls - 1)
 
 -- and of an accepted sheet each event has the home and the link number that its kind has
 pub record AcceptedHomes (text : List ℕ) (ls : List Line) (reading : ℕ) (rooms : Rooms) (o : Outcome) : Type 0 where

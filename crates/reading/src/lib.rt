@@ -281,7 +281,8 @@ pub struct Last {
     pub dollars: u32,
 }
 
-// The answer: code, place, how many events, how many label bytes.
+// The answer: code, place, how many events, how many label bytes, and how many opener records were
+// looked at while those were sought that a token closes.
 #[repr(C)]
 #[derive(Clone, Copy, PartialEq, Eq)]
 pub struct Answer {
@@ -289,4 +290,5 @@ pub struct Answer {
     pub place: u32,
     pub events: u32,
     pub labels: u32,
+    pub looks: u64,
 }

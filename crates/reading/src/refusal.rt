@@ -58,6 +58,7 @@ impl From<Refusal> for Answer {
             place: r.place(),
             events: 0,
             labels: 0,
+            looks: 0,
         }
     }
 }

@@ -124,6 +124,7 @@ fn stored_answer(sample: &mut Sample) -> Answer {
         place: small(sample.number()),
         events: small(sample.number()),
         labels: small(sample.number()),
+        looks: sample.number(),
     }
 }
 

@@ -1,5 +1,5 @@
 -- One change after another, and what a change says of the parser's own numbers.
-use Prim.Native.Nat.{ℕ}
+use Prim.Native.Nat.{ℕ, ◌+◌}
 use mathlib.Core.Path.{◌≡◌, refl, sym, ap, ◌∙◌}
 use mathlib.Core.List.{List}
 use Rattle.std.specs.Borrow.{MutBor}
@@ -7,13 +7,41 @@ use lib.ListN.{length}
 use Rattle.lex.specs.declared.lex.Cursor.{Cursor}
 use Rattle.reading.specs.Machine.{State, Turn}
 use Rattle.rooms.specs.declared.Parser.{Parser}
-use Rattle.rooms.specs.Records.{event_at}
+use Rattle.rooms.specs.Records.{event_at, opener_at}
 use Rattle.rooms.specs.Steps.{state, turn, Lent, Stepped, Changed, Queued, staying}
-use Rattle.rooms.proofs.Rows.{rows-length}
+use Rattle.rooms.proofs.Rows.{rows-length, stack-length}
 
 -- as many events as are counted
 pub queue_long : (p : Parser) → length (state p).queue ≡ p.at.events
 queue_long p = rows-length event_at p.at.events p.queue.now
+
+-- and as many openers
+pub openers_long : (p : Parser) → length (state p).openers ≡ p.at.openers
+openers_long p = stack-length opener_at p.at.openers p.openers.now
+
+-- the parser with so many more opener records looked at
+abbrev pub looked_at : ℕ → Parser → Parser
+looked_at n p =
+    record {
+      at = record {
+        cursor = p.at.cursor;
+        events = p.at.events;
+        openers = p.at.openers;
+        inside = p.at.inside;
+        last = p.at.last;
+        labels = p.at.labels;
+        fits = p.at.fits;
+        links = p.at.links;
+        refused = p.at.refused;
+        looks = p.at.looks + n;
+      };
+      queue = p.queue;
+      openers = p.openers;
+      labels = p.labels;
+      queue_held = p.queue_held;
+      openers_held = p.openers_held;
+      labels_held = p.labels_held;
+    }
 
 -- the rooms are still those that were lent
 pub lent-then : (p r t : Parser) → Lent p r → Lent r t → Lent p t
@@ -141,6 +169,26 @@ queued-still p f e = queue-step p p f e refl refl refl refl refl refl
 pub stepped-from : (p u r : Parser) (f g : State → Turn) → Stepped u r f → u.queue ≡ p.queue → u.openers ≡ p.openers → u.labels ≡ p.labels
     → f (state u) ≡ g (state p) → Stepped p r g
 stepped-from p u r f g c q o l e = record { same = c.same ∙ e; lent = lent-then p u r (lent-same p u q o l) c.lent }
+
+-- and one that leaves the label room, or the openers too
+pub changed-from : (p u r : Parser) (f g : State → Turn) → Changed u r f → u.queue ≡ p.queue → u.openers ≡ p.openers → u.labels ≡ p.labels
+    → u.at.labels ≡ p.at.labels → f (state u) ≡ g (state p) → Changed p r g
+changed-from p u r f g c q o l k e =
+    record {
+      same = c.same ∙ e;
+      lent = lent-then p u r (lent-same p u q o l) c.lent;
+      labels = c.labels ∙ k;
+      label_room = c.label_room ∙ ap (λ (x : MutBor (List ℕ)). x.now) l;
+    }
+
+pub queued-from : (p u r : Parser) (f g : State → Turn) → Queued u r f → u.queue ≡ p.queue → u.openers ≡ p.openers → u.labels ≡ p.labels
+    → u.at.openers ≡ p.at.openers → u.at.labels ≡ p.at.labels → f (state u) ≡ g (state p) → Queued p r g
+queued-from p u r f g c q o l n k e =
+    record {
+      changed = changed-from p u r f g c.changed q o l k e;
+      openers = c.openers ∙ n;
+      opener_room = c.opener_room ∙ ap (λ (x : MutBor (List ℕ)). x.now) o;
+    }
 
 -- a change of the queue, and other marks on the parser with the same rooms and counts
 pub queued-to : (p r t : Parser) (f g : State → Turn) → Queued p r f → t.queue ≡ r.queue → t.openers ≡ r.openers → t.labels ≡ r.labels

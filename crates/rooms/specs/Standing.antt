@@ -22,6 +22,7 @@ stands s q o l =
       fits = s.fits;
       links = s.links;
       refused = s.refused;
+      looks = s.looks;
     }
 
 -- nothing queued, open or refused
@@ -37,6 +38,7 @@ fresh_of c l =
       fits = true;
       links = link 0;
       refused = None;
+      looks = 0;
     }
 
 -- a line

@@ -18,8 +18,8 @@ pub use span::Span;
 
 // What a reading is at between two tokens: the cursor in the line, how many records the queue and
 // the openers hold, the open verbatim, the newest event, the label bytes built and whether all of
-// them fitted, the next link's number, and the brace at which it stands. The bytes that were built
-// before one that did not fit are counted still.
+// them fitted, the next link's number, the brace at which it stands, and how many opener records
+// were looked at. The bytes that were built before one that did not fit are counted still.
 #[derive(Clone, Copy)]
 pub struct Status {
     pub cursor: Cursor,
@@ -31,6 +31,7 @@ pub struct Status {
     pub fits: bool,
     pub links: Link,
     pub refused: Option<Place>,
+    pub looks: u64,
 }
 
 // The parser: what it is at, and the rooms that are lent to it, which hold the records and label
@@ -161,6 +162,7 @@ impl<'q, 'o, 'l> Parser<'q, 'o, 'l> {
             fits: true,
             links: Link(0),
             refused: None,
+            looks: 0,
         };
         Parser {
             at,
@@ -270,20 +272,23 @@ impl<'q, 'o, 'l> Parser<'q, 'o, 'l> {
     }
 
     // The newest of the first n openers that a mark closes; what closes nothing finds none. A loop
-    // from the top with a break is the form that document 01 names (docs/DECISIONS.md, "Forms").
+    // from the top with a break is the form that document 01 names (docs/DECISIONS.md, "Forms"). It
+    // is never laid into its caller, where the loop would have too few registers.
+    #[inline(never)]
     pub fn seek(&self, n: usize, closes: Option<Closer>) -> Option<usize>
         requires { n * opener_numbers ≤ length self.now.openers.now }
         ensures sought { result ≡ place (sought closes (opens n self.now.openers.now)) }
         ensures within { IfSome result (λ i. i < n) }
     {
         let mark = closes?;
+        let openers = &*self.openers;
         let mut i = n;
         loop {
             if i == 0 {
                 break None;
             }
             i -= 1;
-            if tables::closed_by(self.openers[i * OPENER_NUMBERS].into()) == mark {
+            if tables::closed_by(openers[i * OPENER_NUMBERS].into()) == mark {
                 break Some(i);
             }
         }

@@ -3,12 +3,28 @@
 // printed.
 ghost use Rattle.std.specs.Prelude.{◌≤◌, length, OnOk, IfSome};
 ghost use Rattle.std.specs.Io.KnownBytes.{Appends};
-ghost use Rattle.show.specs.Shown.{sheet_text, shown};
+ghost use Rattle.show.specs.Shown.{answer_line, sheet_text, shown};
 
 use input::{BYTES, SheetRooms};
-use reading::{EVENT_NUMBERS, Line};
+use reading::{Answer, EVENT_NUMBERS, Line};
 use std::io;
 use std::io::{Read, Write};
+
+// The answer, on one line.
+#[tactic(auto, unfolding(crate::specs::Shown::answer_line))]
+fn write_answer<W: Write>(to: &mut W, a: Answer) -> io::Result<()>
+    ensures { OnOk result (Appends (W.contents to.old) (W.contents to.new) (answer_line a)) }
+{
+    let Answer {
+        code,
+        place,
+        events,
+        labels,
+        looks,
+    } = a;
+    write!(to, "{code} {place} {events} ")?;
+    writeln!(to, "{labels} {looks}")
+}
 
 // The events of a sheet and the answer, in reading 0.
 #[tactic(auto, unfolding(crate::specs::Shown::sheet_text))]
@@ -30,10 +46,7 @@ fn show<W: Write>(to: &mut W, text: &[u8]) -> io::Result<()>
     );
     let numbers = answer.events as usize * EVENT_NUMBERS;
     printing::write_events(to, printing::front(&rooms.events, numbers))?;
-    printing::write_line(
-        to,
-        &[answer.code, answer.place, answer.events, answer.labels],
-    )
+    write_answer(to, answer)
 }
 
 // At most 1,000 bytes of input are a sheet. `page::page_input` says why it is a function of its

@@ -68,11 +68,11 @@ enough ls = 5 * total ls + 29 * (total ls + 1)
 abbrev pub fragmented_of : FragmentAnswer → Rooms → List ℕ → Fragmented
 fragmented_of a rooms out = record { answer = a; rooms = rooms; out = out }
 
--- an accepted call, as the reader's
+-- an accepted call, as the reader's. The answer of a fragment does not say how long the search got
 abbrev pub read_of : Fragmented → Outcome
 read_of f =
     record {
-      answer = record { code = f.answer.code; place = f.answer.place; events = f.answer.events; labels = f.answer.labels };
+      answer = record { code = f.answer.code; place = f.answer.place; events = f.answer.events; labels = f.answer.labels; looks = 0 };
       rooms = f.rooms;
     }
 

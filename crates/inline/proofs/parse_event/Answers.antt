@@ -50,6 +50,7 @@ outside-requires c =
       ready = event-ready a.text.now a.reading (viewed a.v.now) a.p.now c.requires _ c.next_token-lexed.ensures _ c.in-Some.is _
           _ refl refl refl refl refl;
       label_room = record { room = c.requires.label_room; links = c.requires.links };
+      countable = c.requires.looks;
       ended = event-ended a.text.now a.reading (viewed a.v.now) a.p.now c.requires _ c.next_token-lexed.ensures _ c.in-Some.is (omega arith)
           c.in-None.is _ refl refl refl;
     }
@@ -70,4 +71,4 @@ pub returns-in_default-kind : goal.returns-in_default-kind
 returns-in_default-kind c =
     let a = c.args in
     stepped-from a.p.now _ _ _ _ (c.outside.ensures (rules_of a.reading)) refl refl refl
-    (event-outside a.text.now a.reading (viewed a.v.now) a.p.now c.requires _ c.next_token-lexed.ensures _ c.in-Some.is (omega arith) c.in-None.is _ c.role_of.ensures)
+    (event-outside a.text.now a.reading (viewed a.v.now) a.p.now c.requires _ c.next_token-lexed.ensures _ c.in-Some.is (omega arith) c.in-None.is c.in_default-kind.not-Text _ c.role_of.ensures)

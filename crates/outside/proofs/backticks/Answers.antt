@@ -2,7 +2,8 @@
 use Prim.Native.Nat.{◌+◌}
 use Rattle.std.proofs.Common.{rules}
 use Rattle.reading.specs.Reading.{outside}
-use Rattle.outside.proofs.Single.{dollars-ended}
+use Rattle.reading.specs.Looks.{seeks_by, looked}
+use Rattle.outside.proofs.Single.{dollars-ended, queued_taken}
 use Rattle.outside.proofs.backticks.Goals as goal
 
 pub opens_verbatim-requires-clause-dollars : goal.opens_verbatim-requires-clause-dollars
@@ -12,7 +13,13 @@ pub opens_verbatim-requires-clause-from_bound : goal.opens_verbatim-requires-cla
 opens_verbatim-requires-clause-from_bound c = (dollars-ended c.args.p.now (c.args.v.now.base + c.args.h.from) c.requires.ended).1
 
 pub returns : goal.returns
-unfolding outside
+unfolding outside seeks_by looked
 returns c x =
     let e = c.alone.ensures x in
+    search rules
+
+pub returns-then-h-le-LONGEST_RUN : goal.returns-then-h-le-LONGEST_RUN
+unfolding outside seeks_by looked
+returns-then-h-le-LONGEST_RUN c x =
+    let e = queued_taken _ _ _ c.opens_verbatim.ensures in
     search rules

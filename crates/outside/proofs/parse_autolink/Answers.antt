@@ -5,7 +5,8 @@ use lib.ListN.{drop}
 use Rattle.std.proofs.Common.{rules}
 use Rattle.scan.proofs.Laws.{autolink-some, autolink-long}
 use Rattle.reading.specs.Reading.{outside, angle}
-use Rattle.outside.proofs.Single.{scan-within}
+use Rattle.reading.specs.Looks.{seeks_by, unless_taken, looked}
+use Rattle.outside.proofs.Single.{scan-within, queued_taken}
 use Rattle.outside.proofs.parse_autolink.Goals as goal
 
 pub autolinked-requires-clause-n_bound : goal.autolinked-requires-clause-n_bound
@@ -24,7 +25,13 @@ autolinked-requires-clause-room c =
     omega (arith, w, autolink-long (drop c.args.h.to line) _ e, c.requires.room, c.requires.long)
 
 pub returns-in-None : goal.returns-in-None
-unfolding outside angle
+unfolding outside angle seeks_by unless_taken looked
 returns-in-None c x =
     let e = c.alone.ensures x in
+    search rules
+
+pub returns-in-Some : goal.returns-in-Some
+unfolding outside angle seeks_by unless_taken looked
+returns-in-Some c x =
+    let e = queued_taken _ _ _ c.autolinked.ensures in
     search rules

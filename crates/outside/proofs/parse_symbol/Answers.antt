@@ -5,7 +5,8 @@ use lib.ListN.{drop}
 use Rattle.std.proofs.Common.{rules}
 use Rattle.scan.proofs.Laws.{symbol-some}
 use Rattle.reading.specs.Reading.{outside, colon}
-use Rattle.outside.proofs.Single.{scan-within}
+use Rattle.reading.specs.Looks.{seeks_by, unless_taken, looked}
+use Rattle.outside.proofs.Single.{scan-within, queued_taken}
 use Rattle.outside.proofs.parse_symbol.Goals as goal
 
 pub named-requires-clause-n_bound : goal.named-requires-clause-n_bound
@@ -16,7 +17,13 @@ named-requires-clause-n_bound c =
     omega (arith, w, c.requires.small)
 
 pub returns-in-None : goal.returns-in-None
-unfolding outside colon
+unfolding outside colon seeks_by unless_taken looked
 returns-in-None c x =
     let e = c.alone.ensures x in
+    search rules
+
+pub returns-in-Some : goal.returns-in-Some
+unfolding outside colon seeks_by unless_taken looked
+returns-in-Some c x =
+    let e = queued_taken _ _ _ c.named.ensures in
     search rules
