@@ -16,14 +16,14 @@ use Rattle.rooms.specs.declared.Parser.{Parser}
 use Rattle.rooms.specs.Records.{event_at}
 use Rattle.rooms.specs.Steps.{state, staying, Queued}
 use Rattle.rooms.proofs.Rows.{rows-length}
-use Rattle.rooms.proofs.Changing.{changed-stepped, stepped-cursor, stepped-events, queued-as, queued-then}
+use Rattle.rooms.proofs.Changing.{stepped-cursor, stepped-events, queued-as, queued-then}
 
 -- events put, and others behind them, are put together
 pub puts_then : (p r t : Parser) (ds es : List Event) (k l : Option Last) → Queued p r (staying p (puts ds k)) → Queued r t (staying r (puts es l))
     → Queued p t (staying p (puts (ds ++ es) l))
 puts_then p r t ds es k l c d =
     queued-then p r _ c t _ _ d
-    (rw (stepped-cursor p r _ (changed-stepped p r _ c.changed))
+    (rw (stepped-cursor p r (staying p (puts ds k)) c.changed.same)
     (ap (λ (q : List Event). staying p (noting q l) (state p)) (append_assoc (state p).queue ds es)))
 
 -- a row with one more event
@@ -67,7 +67,7 @@ unfolding row
 begun-first base kind w i p r q =
     record {
       place = omega arith;
-      count = stepped-events p r _ (changed-stepped p r _ q.changed) ∙ rows-length event_at p.at.events p.queue.now ∙ omega arith;
+      count = stepped-events p r (staying p (noting (state p).queue None)) q.changed.same ∙ rows-length event_at p.at.events p.queue.now ∙ omega arith;
       put = queued-as p r _ q _ (ap (λ (es : List Event). staying p (noting es None) (state p)) (sym (append-nil (state p).queue)));
     }
 

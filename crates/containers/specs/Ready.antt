@@ -29,6 +29,7 @@ pub record Ready (v : View) (h : Span) (p : Parser) : Type 0 where
 
 -- the label room and links that a link's end asks for
 pub record LabelRoom (p : Parser) : Type 0 where
+  pub labels : p.at.labels ≤ length p.labels.now
   pub room : length p.labels.now < 2 ^ 32
   pub links : p.at.links.0 + 1 < 2 ^ 32
 

@@ -29,9 +29,9 @@ fn may_close(p: &Parser, v: &View, h: Span, o: Opener) -> bool
     requires event_lt_events { o.event < p.now.at.events }
     ensures { result ≡ spec.may_close (viewed v.now) (here h p.now.at) (state p.now) o }
 {
+    let events = p.at.events;
     let blank = classes::is_blank(v.byte_before(h.from));
-    (tables::may_be_empty(o.sort) | (o.event + 1 != p.at.events))
-        & !(tables::two_way(o.sort) & blank)
+    (tables::may_be_empty(o.sort) | (o.event + 1 != events)) & !(tables::two_way(o.sort) & blank)
 }
 
 // The token behind is peeked at.
@@ -175,6 +175,7 @@ fn tried(
     found: Option<usize>,
 ) -> Option<usize>
     requires from_in_bounds { h.from ≤ length v.now.bytes.now }
+    requires opener_numbers_in_bounds { p.now.at.openers * opener_numbers ≤ length p.now.openers.now }
     requires named { Named (state p.now).openers p.now.at.events }
     requires found { found ≡ place (spec.seek closes (state p.now).openers) }
     requires found_in { IfSome found (λ i. i < p.now.at.openers) }

@@ -9,7 +9,7 @@ use mathlib.Core.Path.{◌≡◌, refl, sym, ap, ◌∙◌, subst}
 use mathlib.Core.List.{List}
 use mathlib.Core.Bool.{true, false}
 use native.Mathlib.Nat.{sub-zero}
-use mathlib.Core.Logic.{inr}
+use mathlib.Core.Logic.{inl, inr}
 use native.Mathlib.Omega.{arith}
 use borrow.Author.Tests.{leb-true, leb-false}
 use lib.ListN.{length, get_or}
@@ -32,7 +32,7 @@ use Rattle.rooms.specs.declared.Parser.{Parser}
 use Rattle.rooms.specs.Records.{event_at, opener_at}
 use Rattle.rooms.specs.Steps.{state, turn, turning, Lent, Stepped}
 use Rattle.rooms.proofs.Rows.{rows-length, rows_at, stack-length}
-use Rattle.rooms.proofs.Changing.{lent-then}
+use Rattle.rooms.proofs.Changing.{lent-same, lent-then}
 use Rattle.verbatim.specs.Opened.{OpenedBy}
 use Rattle.outside.specs.Outside.{Ended, EndedBy}
 use Rattle.inline.specs.Asks.{Before, over_of}
@@ -89,7 +89,8 @@ module _ (text : List ℕ) (at n : ℕ) (p : Parser) where
 
       go : (last : Option Last) → LastOk last (state p).queue → EndedBy last p
       go None z = tt
-      go (Some l) z =
+      go (Some l) (inl z) = inl z
+      go (Some l) (inr z) =
           let some = ends_some l.dollars l.end.0 (state p).queue z in
           let long = rows-length event_at p.at.events p.queue.now in
           let last : length (state p).queue ≡ suc (p.at.events - 1) = omega (arith, some, long) in
@@ -118,6 +119,7 @@ pub record Turns (text : List ℕ) (v : View) (reading : ℕ) (p₀ p : Parser) 
   pub label_room : length p₀.labels.now < 2 ^ 32
   pub links : p.at.links.0 + (length v.bytes - k) ≤ 4194304
   pub looks : Counts (count + p.at.cursor.pos) (state p)
+  pub labels : p.at.labels ≤ length p.labels.now
   pub lent : Lent p₀ p
 
 module _ (text : List ℕ) (v : View) (reading : ℕ) (p₀ : Parser) where
@@ -125,8 +127,8 @@ module _ (text : List ℕ) (v : View) (reading : ℕ) (p₀ : Parser) where
   x = unasked text reading (length p₀.labels.now)
 
   -- at first
-  pub turns-first : Begins text v p₀ → Turns text v reading p₀ p₀ 0
-  turns-first w =
+  pub turns-first : Begins text v p₀ → p₀.at.labels ≤ length p₀.labels.now → Turns text v reading p₀ p₀ 0
+  turns-first w h =
       record {
         count = w.count;
         held = w.held;
@@ -140,7 +142,8 @@ module _ (text : List ℕ) (v : View) (reading : ℕ) (p₀ : Parser) where
         label_room = w.label_room;
         links = omega (arith, w.links);
         looks = w.looks;
-        lent = record { queue = refl; openers = refl; labels = refl; queue_length = refl; openers_length = refl; labels_length = refl };
+        labels = h;
+        lent = lent-same p₀ p₀ refl refl refl;
       }
 
   module _ (p : Parser) (k : ℕ) (t : Turns text v reading p₀ p k) where
@@ -161,6 +164,7 @@ module _ (text : List ℕ) (v : View) (reading : ℕ) (p₀ : Parser) where
           named = rw (rows-length event_at p.at.events p.queue.now) at (good-named Any text p.at.inside _ _ (state p) f.good);
           opened = good-opened text _ _ p p.at.inside f.good;
           ended = λ is. good-ended text _ _ p p.at.inside is f.good;
+          labels = t.labels;
           label_room = omega (arith, t.label_room, t.lent.labels_length);
           links = omega (arith, t.links, some);
           looks = omega (arith, t.looks on.0, m, half-small (t.count + p.at.cursor.pos) (omega (arith, on.1, t.few)), on.1, t.few);
@@ -183,6 +187,7 @@ module _ (text : List ℕ) (v : View) (reading : ℕ) (p₀ : Parser) where
           label_room = t.label_room;
           links = omega (arith, t.links, some, ap (λ (a : Turn). a.state.links.0) is, links-step x v (turn p));
           looks = subst (λ (a : Turn). Counts (t.count + a.cursor.pos) a.state) (sym is) (step-counts x v t.count t.shows (turn p) none t.held t.looks);
+          labels = st.labels;
           lent = lent-then p₀ p r t.lent st.lent;
         }
       where
@@ -204,7 +209,8 @@ module _ (text : List ℕ) (v : View) (reading : ℕ) (p₀ : Parser) where
         record {
           same = sym (steps-still x (length v.bytes - k) v (turn p) (λ z. step_end x v (turn p) t.held.sound (over-still (length v.bytes) p.at.cursor.pos p.at.refused e z))) ∙ t.same;
           lent = t.lent;
+          labels = t.labels;
         }
 
     pub turns-last : length v.bytes ≤ k → Whole
-    turns-last h = record { same = no_steps x v (turn p) (length v.bytes - k) (omega (arith, h)) ∙ t.same; lent = t.lent }
+    turns-last h = record { same = no_steps x v (turn p) (length v.bytes - k) (omega (arith, h)) ∙ t.same; lent = t.lent; labels = t.labels }

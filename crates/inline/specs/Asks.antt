@@ -28,6 +28,7 @@ pub record Before (v : View) (p : Parser) : Type 0 where
   pub named : Named (state p).openers p.at.events
   pub opened : OpenedBy p.at.inside p
   pub ended : p.at.inside ≡ None → Ended p
+  pub labels : p.at.labels ≤ length p.labels.now
   pub label_room : length p.labels.now < 2 ^ 32
   pub links : p.at.links.0 + 1 < 2 ^ 32
   pub looks : p.at.looks + p.at.openers < 2 ^ 64
@@ -41,6 +42,7 @@ pub record StandsFor (r : Status) (q o l : List ℕ) (s : State) : Type 0 where
 pub record Comes (p r : Parser) (s : State) : Type 0 where
   pub same : state r ≡ s
   pub lent : Lent p r
+  pub labels : r.at.labels ≤ length r.labels.now
 
 -- a sheet that passes questions 2 to 6 of document 01, with a label room of 32 bits
 pub record Sheeted (text : List ℕ) (ls : List Line) (q o l : List ℕ) : Type 0 where
@@ -77,6 +79,7 @@ pub record Lined (text : List ℕ) (v : View) (reading : ℕ) (p : Parser) : Typ
   pub here : Line
   pub seen : v ≡ view_of text here
   pub amid : Amid text here reading (turn p) p.queue.now p.openers.now p.labels.now
+  pub labels : p.at.labels ≤ length p.labels.now
 
 -- stopped at a brace of a line of the text, with room for one event
 pub record BraceAt (text : List ℕ) (here : Line) (at : Place) (p : Parser) : Type 0 where

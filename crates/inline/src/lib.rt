@@ -86,7 +86,8 @@ pub fn begin_line(p: &mut Parser, reading: u32)
 
 // The tokens of a line of the text, from the cursor on, up to a brace.
 pub fn feed_line(p: &mut Parser, text: &[u8], l: Line, reading: u32)
-    requires { Amid text.now l reading (turn p.old) p.old.queue.now p.old.openers.now p.old.labels.now }
+    requires amid { Amid text.now l reading (turn p.old) p.old.queue.now p.old.openers.now p.old.labels.now }
+    requires labels_in_bounds { p.old.at.labels ≤ length p.old.labels.now }
     ensures { Stepped p.old p.new (turning p.old (let v = view_of text.now l in steps (length v.bytes) (unasked text.now reading (length p.old.labels.now)) v)) }
 {
     read_line(p, text, &view_of(text, l), reading);
@@ -123,6 +124,7 @@ pub fn fresh<'q, 'o, 'l>(
     labels: &'l mut [u8],
 ) -> Parser<'q, 'o, 'l>
     ensures at_start { state result ≡ start }
+    ensures labels_value { result.at.labels ≡ 0 }
     ensures cursor_value { result.at.cursor ≡ fresh_of 0 false }
     ensures queue_lent { result.queue.ghost_name ≡ queue.entry.ghost_name }
     ensures openers_lent { result.openers.ghost_name ≡ openers.entry.ghost_name }

@@ -1,7 +1,7 @@
 #![tactic(auto)]
 // The end of a link: its label, and the events that become its enter and exit.
-ghost use Rattle.std.specs.Prelude.{◌≡◌, ◌+◌, ◌^◌, ◌≤◌, ◌<◌, length};
-ghost use Rattle.reading.specs.Events.{enter_from, largest};
+ghost use Rattle.std.specs.Prelude.{◌≡◌, ◌+◌, ◌*◌, ◌^◌, ◌≤◌, ◌<◌, length};
+ghost use Rattle.reading.specs.Events.{enter_from, queue_numbers, largest};
 ghost use Rattle.reading.specs.Machine.{Rules};
 ghost use Rattle.rooms.specs.Standing.{viewed, here};
 ghost use Rattle.rooms.specs.Steps.{Stepped, staying};
@@ -18,9 +18,13 @@ pub fn closes_link(p: &mut Parser, text: &[u8], v: &View, h: Span, t: Target, o:
     requires container_lt_enter_from { t.container < enter_from }
     requires span_bound { o.span + 2 ≤ o.event }
     requires event_lt_events { o.event < p.old.at.events }
+    requires queue_numbers_in_bounds { p.old.at.events * queue_numbers ≤ length p.old.queue.now }
+    requires labels_in_bounds { p.old.at.labels ≤ length p.old.labels.now }
     requires labels_len_bound { length p.old.labels.now < 2 ^ 32 }
     requires links_bound { p.old.at.links.0 + 1 < 2 ^ 32 }
-    ensures { (rules : Rules) → Stepped p.old p.new (staying p.old (linked rules text.now p.old.labels.now (viewed v.now) (here h p.old.at) t o)) }
+    ensures stepped { (rules : Rules) → Stepped p.old p.new (staying p.old (linked rules text.now p.old.labels.now (viewed v.now) (here h p.old.at) t o)) }
+    ensures openers { p.new.at.openers ≡ p.old.at.openers }
+    ensures opener_room { p.new.openers.now ≡ p.old.openers.now }
 {
     let at = p.at;
     let d = Destination {

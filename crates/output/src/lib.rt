@@ -1,6 +1,6 @@
 #![tactic(auto)]
 // Bytes written behind one another from the front of a lent room, as long as it holds them.
-ghost use Rattle.std.specs.Prelude.{◌≡◌, ℕ, ◌≤◌, ◌<◌, [], ◌∷◌, true, false, length, take, slice_index, Some};
+ghost use Rattle.std.specs.Prelude.{◌≡◌, ℕ, ◌≤◌, ◌<◌, [], ◌∷◌, true, false, length, take, slice_index, Some, None};
 
 // The refusal of an output room that is too short, in a number for C.
 pub const OUTPUT_ROOM: u32 = 11;
@@ -32,22 +32,27 @@ impl<'a> Output<'a> {
         self.at
     }
 
-    // Some bytes more, or none of them, if they are more than the room holds.
+    // Some bytes more, or none of them, if they are more than the room holds. Byte by byte: a copy of
+    // the slice calls `memmove`, which the static libraries would then ask of whoever links them.
     pub fn put(&mut self, bytes: &[u8]) -> Option<()>
-        ensures { Adds self.old bytes.now result self.new }
+        ensures added { Adds self.old bytes.now result self.new }
+        ensures stays { result ≡ None → self.new ≡ self.old }
     {
         if self.room.len() - self.at < bytes.len() {
             return None;
         }
-        let end = self.at + bytes.len();
-        self.room[self.at..end].copy_from_slice(bytes);
-        self.at = end;
+        let from = self.at;
+        for (i, b) in bytes.iter().enumerate() {
+            self.room[from + i] = *b;
+        }
+        self.at = from + bytes.len();
         Some(())
     }
 
     // One byte.
     pub fn put_byte(&mut self, b: u8) -> Option<()>
-        ensures { Adds self.old (b ∷ []) result self.new }
+        ensures added { Adds self.old (b ∷ []) result self.new }
+        ensures stays { result ≡ None → self.new ≡ self.old }
     {
         self.put(&[b])
     }

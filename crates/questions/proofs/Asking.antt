@@ -1,8 +1,8 @@
 -- Questions 1 to 6: the chain of them step by step, and that what they come to is the outcome.
 use Rattle.std.specs.Prelude.{Result, Ok, Err}
-use Prim.Native.Nat.{ℕ, ◌+◌, ◌*◌, ◌/◌}
+use Prim.Native.Nat.{ℕ, suc, ◌+◌, ◌*◌, ◌/◌}
 use mathlib.Core.Path.{◌≡◌, refl, sym, ap, ◌∙◌}
-use mathlib.Core.List.{List}
+use mathlib.Core.List.{List, [], ◌∷◌}
 use mathlib.Core.Bool.{Bool, true, false, ◌&&◌}
 use native.Mathlib.Omega.{arith}
 use borrow.Author.Tests.{leb-true}
@@ -11,6 +11,9 @@ use lib.ListN.{length}
 use Rattle.reading.specs.declared.Line.{Line}
 use Rattle.reading.specs.declared.refusal.Refusal.{Refusal}
 use Rattle.reading.specs.Questions.{Rooms, total, first_outside, first_early, outcome_with, outcome}
+use Rattle.reading.proofs.Feeding.{Rising}
+use Rattle.reading.proofs.Theorems.{rising}
+use Rattle.inline.specs.Lines.{lines_of}
 use Rattle.questions.specs.Asking.{limit, checked_lines, roomy, ◌>>=◌, asked_of, concluded, Passed}
 
 -- the chain, where the limits answer l of n lines
@@ -114,3 +117,14 @@ asked-passed text ls reading qs os x =
     both true true e = (refl, refl)
     both true false e = cc
     both false r e = cc
+
+-- of two lists of numbers, they are of one length
+pub passed-paired : (text ss es qs os : List ℕ) → Passed text (lines_of ss es) qs os → length ss ≡ length es
+unfolding lines_of Rising
+passed-paired text ss es qs os w = go ss es 0 (rising text 0 (lines_of ss es) w.fed.inside w.fed.apart)
+  where
+    go : (ss es : List ℕ) (a : ℕ) → Rising text a (lines_of ss es) → length ss ≡ length es
+    go [] [] a r = refl
+    go [] (b ∷ es) a r = absurd (omega (arith, r.1))
+    go (c ∷ ss) [] a r = absurd (omega (arith, r.1))
+    go (c ∷ ss) (b ∷ es) a r = ap suc (go ss es b r.3)

@@ -47,7 +47,7 @@ unfolding taken
 taken-ends None at q ok = inl refl
 taken-ends (Some l) at q ok =
     choose (λ (n : ℕ). (n ≡ 0) ⊎ Ends n at q) (eqb l.end.0 at) _ _
-    (λ e. inr (subst (λ (j : ℕ). Ends l.dollars j q) (eqb-true l.end.0 at e) ok))
+    (λ e. subst (λ (j : ℕ). (l.dollars ≡ 0) ⊎ Ends l.dollars j q) (eqb-true l.end.0 at e) ok)
     (λ e. inl refl)
 
 -- the enter of a run, and its exit

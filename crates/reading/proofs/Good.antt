@@ -5,6 +5,7 @@ use Prim.Native.Nat.{ℕ, suc, ◌+◌, ◌-◌, ◌≤◌, ◌<◌}
 use mathlib.Core.Path.{◌≡◌, refl, sym, subst}
 use mathlib.Core.List.{List, [], ◌∷◌, ◌++◌, map, map-append}
 use mathlib.Core.Bool.{true, false, ◌&&◌, and-eq-true_iff}
+use mathlib.Core.Logic.{◌⊎◌, inr}
 use native.Mathlib.Omega.{arith}
 use borrow.Author.Tests.{eqb-true, ltb-true, lt-ltb}
 use lib.Dec.{eqb, ltb}
@@ -43,17 +44,17 @@ pub record Ends (n at : ℕ) (q : List Event) : Type 0 where
   pub ends : it.end.0 ≡ at
   pub shown : link_exit it.kind ≡ false
 
--- what is noted is of the last event
+-- no dollars are noted, or they are of the last event
 abbrev pub LastOk : Option Last → List Event → Type 0
 LastOk None q = Unit {0}
-LastOk (Some l) q = Ends l.dollars l.end.0 q
+LastOk (Some l) q = (l.dollars ≡ 0) ⊎ Ends l.dollars l.end.0 q
 
 pub last-put : (v : View) (kind i j : ℕ) (q : List Event) → i ≤ j → LastOk (last_of v kind i j) (q ++ event kind (v.base + i) (v.base + j) ∷ [])
 unfolding last_of link_exit
 last-put v kind i j q h =
     choose (λ (l : Option Last). LastOk l (q ++ event kind (v.base + i) (v.base + j) ∷ [])) (eqb kind str) _ _
     (λ e.
-    record {
+    inr record {
       front = q;
       it = event kind (v.base + i) (v.base + j);
       parted = refl;

@@ -58,10 +58,11 @@ fn same<T: Number>(sample: &mut Sample, part: &[T]) -> bool
     same
 }
 
-fn all_zero<T: Number>(part: &[T]) -> bool
-    ensures { result ≡ list_all (λ n. T.value n == 0) part.now }
+// All are one number.
+fn all_are<T: Number>(part: &[T], x: u64) -> bool
+    ensures { result ≡ list_all (λ n. T.value n == x) part.now }
 {
-    part.iter().all(|n| n.value() == 0)
+    part.iter().all(|n| n.value() == x)
 }
 
 // So many stored numbers from the front of a room, and zero behind them.
@@ -74,7 +75,7 @@ fn held<T: Number>(sample: &mut Sample, count: usize, room: &[T]) -> bool
     ensures bytes { sample.new.bytes ≡ sample.old.bytes }
 {
     match room.split_at_checked(count) {
-        Some((front, rest)) => all_zero(rest) & same(sample, front),
+        Some((front, rest)) => all_are(rest, 0) & same(sample, front),
         None => false,
     }
 }
@@ -91,10 +92,10 @@ struct Rooms<'a> {
 impl Rooms<'_> {
     // All hold one number, and the labels one byte.
     fn are(self, x: u32, byte: u8) -> bool {
-        self.events.iter().all(|n| *n == x)
-            & self.queue.iter().all(|n| *n == x)
-            & self.openers.iter().all(|n| *n == x)
-            & self.labels.iter().all(|b| *b == byte)
+        all_are(self.events, x.value())
+            & all_are(self.queue, x.value())
+            & all_are(self.openers, x.value())
+            & all_are(self.labels, byte.value())
     }
 
     // They are as a stored answer leaves them: 1 to 6 wrote nothing, 7 to 9 leave zero. By the
@@ -179,8 +180,8 @@ fn replay_case(line: &[u8]) -> bool {
     let mut ends = [0usize; 64];
     let reading = small(sample.number());
     let text = sample.list(&mut text, stored::byte);
-    let starts = sample.list(&mut starts, |n| n as usize);
-    let ends = sample.list(&mut ends, |n| n as usize);
+    let starts = sample.list(&mut starts, stored::place);
+    let ends = sample.list(&mut ends, stored::place);
     replay_call(&mut sample, reading, text, starts, ends) & (sample.at == line.len())
 }
 

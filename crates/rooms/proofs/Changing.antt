@@ -1,5 +1,5 @@
 -- One change after another, and what a change says of the parser's own numbers.
-use Prim.Native.Nat.{ℕ, ◌+◌}
+use Prim.Native.Nat.{ℕ, ◌+◌, ◌≤◌}
 use mathlib.Core.Path.{◌≡◌, refl, sym, ap, ◌∙◌}
 use mathlib.Core.List.{List}
 use Rattle.std.specs.Borrow.{MutBor}
@@ -38,9 +38,6 @@ looked_at n p =
       queue = p.queue;
       openers = p.openers;
       labels = p.labels;
-      queue_held = p.queue_held;
-      openers_held = p.openers_held;
-      labels_held = p.labels_held;
     }
 
 -- the rooms are still those that were lent
@@ -107,21 +104,25 @@ module _ (p r : Parser) (f : State → Turn) where
         label_room = ap (λ (x : MutBor (List ℕ)). x.now) ls;
       }
 
-  module _ (c : Stepped p r f) where
+  module _ (same : turn r ≡ f (state p)) where
     -- the cursor, and the counts of records
     pub stepped-cursor : r.at.cursor ≡ (f (state p)).cursor
-    stepped-cursor = ap (λ (a : Turn). a.cursor) c.same
+    stepped-cursor = ap (λ (a : Turn). a.cursor) same
 
     pub stepped-events : r.at.events ≡ length (f (state p)).state.queue
-    stepped-events = sym (rows-length event_at r.at.events r.queue.now) ∙ ap (λ (a : Turn). length a.state.queue) c.same
+    stepped-events = sym (rows-length event_at r.at.events r.queue.now) ∙ ap (λ (a : Turn). length a.state.queue) same
 
-    -- what it does, told otherwise
-    pub stepped-as : (g : State → Turn) → f (state p) ≡ g (state p) → Stepped p r g
-    stepped-as g e = record { same = c.same ∙ e; lent = c.lent }
+  -- what it does, told otherwise
+  pub stepped-as : Stepped p r f → (g : State → Turn) → f (state p) ≡ g (state p) → Stepped p r g
+  stepped-as c g e = record { same = c.same ∙ e; lent = c.lent; labels = c.labels }
 
   module _ (c : Changed p r f) where
-    pub changed-stepped : Stepped p r f
-    changed-stepped = record { same = c.same; lent = c.lent }
+    -- the label room still holds what is counted
+    pub changed-labels : p.at.labels ≤ length p.labels.now → r.at.labels ≤ length r.labels.now
+    changed-labels h = rw (c.labels, c.label_room) h
+
+    pub changed-stepped : p.at.labels ≤ length p.labels.now → Stepped p r f
+    changed-stepped h = record { same = c.same; lent = c.lent; labels = changed-labels h }
 
     pub changed-as : (g : State → Turn) → f (state p) ≡ g (state p) → Changed p r g
     changed-as g e = record { same = c.same ∙ e; lent = c.lent; labels = c.labels; label_room = c.label_room }
@@ -160,15 +161,15 @@ lent-same p u q o l =
     }
 
 -- nothing happens
-pub stepped-still : (p : Parser) (f : State → Turn) → turn p ≡ f (state p) → Stepped p p f
-stepped-still p f e = record { same = e; lent = lent-same p p refl refl refl }
+pub stepped-still : (p : Parser) (f : State → Turn) → p.at.labels ≤ length p.labels.now → turn p ≡ f (state p) → Stepped p p f
+stepped-still p f h e = record { same = e; lent = lent-same p p refl refl refl; labels = h }
 
 pub queued-still : (p : Parser) (f : State → Turn) → turn p ≡ f (state p) → Queued p p f
 queued-still p f e = queue-step p p f e refl refl refl refl refl refl
 
 pub stepped-from : (p u r : Parser) (f g : State → Turn) → Stepped u r f → u.queue ≡ p.queue → u.openers ≡ p.openers → u.labels ≡ p.labels
     → f (state u) ≡ g (state p) → Stepped p r g
-stepped-from p u r f g c q o l e = record { same = c.same ∙ e; lent = lent-then p u r (lent-same p u q o l) c.lent }
+stepped-from p u r f g c q o l e = record { same = c.same ∙ e; lent = lent-then p u r (lent-same p u q o l) c.lent; labels = c.labels }
 
 -- and one that leaves the label room, or the openers too
 pub changed-from : (p u r : Parser) (f g : State → Turn) → Changed u r f → u.queue ≡ p.queue → u.openers ≡ p.openers → u.labels ≡ p.labels
@@ -209,4 +210,4 @@ queued-to p r t f g c q o l n k same =
 module _ (p r t : Parser) (f g : State → State) where
   pub queued-on : Queued p r (staying p f) → Queued r t (staying r g) → Queued p t (staying p (λ s. g (f s)))
   queued-on c d =
-      queued-then p r _ c t _ _ d (ap (λ (k : Cursor). record { cursor = k; state = g (f (state p)) }) (stepped-cursor p r _ (changed-stepped p r _ c.changed)))
+      queued-then p r _ c t _ _ d (ap (λ (k : Cursor). record { cursor = k; state = g (f (state p)) }) (stepped-cursor p r (staying p f) c.changed.same))

@@ -28,6 +28,7 @@ pub record Lent (p r : Parser) : Type 0 where
 pub record Stepped (p r : Parser) (f : State → Turn) : Type 0 where
   pub same : turn r ≡ f (state p)
   pub lent : Lent p r
+  pub labels : r.at.labels ≤ length r.labels.now
 
 -- what one does that leaves the label room
 pub record Changed (p r : Parser) (f : State → Turn) : Type 0 where

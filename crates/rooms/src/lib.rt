@@ -34,19 +34,15 @@ pub struct Status {
     pub looks: u64,
 }
 
-// The parser: what it is at, and the rooms that are lent to it, which hold the records and label
-// bytes that it counts. That there is room for more is asked call by call, since a push spends it.
-// The line is lent beside it: lines begin and end within a parser's life, and `inline::finish` has
-// none.
+// The parser: what it is at, and the rooms that are lent to it. That these hold what it counts, and
+// room for more, is asked call by call: some functions touch no room, and a push spends it. The
+// line is lent beside it: lines begin and end within a parser's life, and `inline::finish` has none.
 #[derive(Drop)]
 pub struct Parser<'q, 'o, 'l> {
     pub at: Status,
     pub queue: &'q mut [u32],
     pub openers: &'o mut [u32],
     pub labels: &'l mut [u8],
-    ghost queue_held: { at.events * queue_numbers ≤ length queue.now },
-    ghost openers_held: { at.openers * opener_numbers ≤ length openers.now },
-    ghost labels_held: { at.labels ≤ length labels.now },
 }
 
 // A line: its bytes, where it starts, and the byte before it, 0 at the text's start. It is of the

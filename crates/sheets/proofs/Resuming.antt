@@ -24,7 +24,7 @@ use Rattle.rooms.specs.declared.Parser.{Parser}
 use Rattle.rooms.specs.Steps.{state, turn, turning, Lent, Stepped, Queued}
 use Rattle.rooms.specs.Records.{event_at}
 use Rattle.rooms.proofs.Rows.{rows-length}
-use Rattle.rooms.proofs.Changing.{lent-same, lent-then}
+use Rattle.rooms.proofs.Changing.{lent-same, lent-then, changed-labels}
 use Rattle.verbatim.specs.Opened.{Begun}
 use Rattle.inline.specs.Asks.{Behind, Amid, BraceAt, Within, Comes}
 use Rattle.inline.specs.Lines.{none}
@@ -62,11 +62,12 @@ pub record Walks (text : List ℕ) (all : List Line) (i reading : ℕ) (p₀ out
   pub going : out.at.refused ≡ None
   pub same : let x = sheet text all reading (length p₀.labels.now) in let v = view_of text (get_or all i none) in turn out ≡ steps count x v (begun x v (state p₀))
   pub lent : Lent p₀ out
+  pub labels : out.at.labels ≤ length out.labels.now
 
 module _ {text : List ℕ} {all : List Line} {i reading : ℕ} {p : Parser} (w : Behind text all i reading (state p) p.queue.now p.openers.now p.labels.now) where
-  pub walks-first : p.at.refused ≡ None → {out : Parser} → Begun reading p out → Walks text all i reading p out 0
+  pub walks-first : p.at.labels ≤ length p.labels.now → p.at.refused ≡ None → {out : Parser} → Begun reading p out → Walks text all i reading p out 0
   unfolding steps
-  walks-first un {out} b =
+  walks-first h un {out} b =
       let same = b.same text (length p.labels.now) (view_of text (get_or all i none)) in
       record {
         behind = w;
@@ -76,6 +77,7 @@ module _ {text : List ℕ} {all : List Line} {i reading : ℕ} {p : Parser} (w :
         going = ap (λ (a : Turn). a.state.refused) same ∙ un;
         same = same;
         lent = lent-same p out b.queue b.openers b.labels;
+        labels = rw (b.built, b.labels) h;
       }
 
 module _ {text : List ℕ} {all : List Line} {i reading : ℕ} {p₀ out : Parser} {round : ℕ}
@@ -131,6 +133,7 @@ module _ {text : List ℕ} {all : List Line} {i reading : ℕ} {p₀ out : Parse
       record {
         same = ap (λ (b : Turn). b.state) (t.same ∙ moment-still x v text m (shows w) a₀ (first w) t.count (omega (arith, h, t.enough)));
         lent = t.lent;
+        labels = t.labels;
       }
 
   -- the parser has gone on to a stop, or to the line's end
@@ -157,6 +160,7 @@ module _ {text : List ℕ} {all : List Line} {i reading : ℕ} {p₀ out : Parse
         record {
           same = ap (λ (b : Turn). b.state) (there ∙ sym e ∙ moment-end x v text m (shows w) a₀ (first w) t.count);
           lent = lent-then p₀ out r t.lent c.lent;
+          labels = c.labels;
         }
 
     pub walks-end : r.at.refused ≡ None → Comes p₀ r (line_of x v (state p₀))
@@ -269,4 +273,5 @@ module _ {text : List ℕ} {all : List Line} {i reading : ℕ} {p₀ out : Parse
               going = ap (λ (z : Turn). z.state.refused) same;
               same = same ∙ next-same;
               lent = lent-then p₀ r f (lent-then p₀ out r t.lent c.lent) d.changed.lent;
+              labels = changed-labels _ _ _ d.changed c.labels;
             }

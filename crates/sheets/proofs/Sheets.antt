@@ -22,7 +22,7 @@ use Rattle.rooms.specs.declared.Parser.{Parser}
 use Rattle.rooms.specs.Records.{event_at}
 use Rattle.rooms.specs.Steps.{state, staying, Lent, Queued, Room}
 use Rattle.rooms.proofs.Rows.{rows-length}
-use Rattle.rooms.proofs.Changing.{lent-same, lent-then}
+use Rattle.rooms.proofs.Changing.{lent-same, lent-then, changed-labels}
 use Rattle.inline.specs.Asks.{Behind, Comes, Sheeted, Closing, ending}
 use Rattle.inline.specs.Lines.{none}
 use Rattle.inline.proofs.Begins.{before-stood, before-few}
@@ -51,12 +51,20 @@ pub record Head (text : List ℕ) (ls : List Line) (reading : ℕ) (p₀ p : Par
   pub same : state p ≡ lines (sheet text ls reading (length p₀.labels.now)) (views text (take i ls)) start
   pub stops : end ≡ end_of (take i ls) 0
   pub lent : Lent p₀ p
+  pub labels : p.at.labels ≤ length p.labels.now
 
 pub head_first : {text : List ℕ} {ls : List Line} {reading : ℕ} (p : Parser) → Sheeted text ls p.queue.now p.openers.now p.labels.now → state p ≡ start
-    → Head text ls reading p p 0 0
+    → p.at.labels ≡ 0 → Head text ls reading p p 0 0
 unfolding lines end_of
-head_first p w is =
-    record { asks = w; inside = omega arith; same = is; stops = refl; lent = lent-same p p refl refl refl }
+head_first p w is none =
+    record {
+      asks = w;
+      inside = omega arith;
+      same = is;
+      stops = refl;
+      lent = lent-same p p refl refl refl;
+      labels = omega (arith, none);
+    }
 
 module _ {text : List ℕ} {ls : List Line} {reading : ℕ} {p₀ p : Parser} {end i : ℕ} (h : Head text ls reading p₀ p end i) where
   abbrev w : Sheeted text ls p₀.queue.now p₀.openers.now p₀.labels.now
@@ -107,6 +115,7 @@ module _ {text : List ℕ} {ls : List Line} {reading : ℕ} {p₀ p : Parser} {e
               ∙ ap (λ (ms : List Line). lines x (views text ms) start) (sym more);
           stops = isb ∙ sym (ap (λ (ms : List Line). end_of ms 0) more ∙ end_more (take i ls) here 0);
           lent = lent-then p₀ p r h.lent st.lent;
+          labels = st.labels;
         }
 
   -- behind the last line
@@ -150,6 +159,7 @@ module _ {text : List ℕ} {ls : List Line} {reading : ℕ} {p₀ p : Parser} {e
           same = ap (λ (a : Turn). a.state) c.changed.same ∙ ap (λ (b : ℕ). ending b (state p)) h.stops ∙ ap (ending (end_of (take i ls) 0)) h.same
               ∙ ap (λ (ms : List Line). ending (end_of ms 0) (lines x (views text ms) start)) all;
           lent = lent-then p₀ p r h.lent c.changed.lent;
+          labels = changed-labels _ _ _ c.changed h.labels;
         }
 
 -- what `parse` asks can be met: `*a*`, in rooms of the stated sizes

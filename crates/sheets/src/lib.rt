@@ -90,7 +90,8 @@ fn block_at<L: Lines>(text: &[u8], lines: L, i: usize, at: usize) -> bool
 
 // The i-th line. At each brace the validator is asked, once; the definition is of so many rounds.
 fn parse_line<L: Lines>(p: &mut Parser, text: &[u8], lines: L, i: usize, reading: u32)
-    requires { Behind text.now (L.listed lines) i reading (state p.old) p.old.queue.now p.old.openers.now p.old.labels.now }
+    requires behind { Behind text.now (L.listed lines) i reading (state p.old) p.old.queue.now p.old.openers.now p.old.labels.now }
+    requires labels_in_bounds { p.old.at.labels ≤ length p.old.labels.now }
     ensures { Comes p.old p.new (line_of (sheet text.now (L.listed lines) reading (length p.old.labels.now)) (view_of text.now (get_or (L.listed lines) i none)) (state p.old)) }
 {
     let None = p.at.refused else {

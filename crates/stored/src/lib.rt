@@ -1,7 +1,7 @@
 #![tactic(auto)]
 // Stored answers of the Rust, as decimal numbers with one byte behind each: what the programs that
 // replay them share.
-ghost use Rattle.std.specs.Prelude.{◌≡◌, ◌%◌, min, length, OnOk, Some};
+ghost use Rattle.std.specs.Prelude.{◌≡◌, ◌+◌, ◌%◌, min, length, OnOk, Some};
 ghost use Rattle.std.specs.List.{AllZip};
 ghost use Rattle.std.specs.Fn.{FnReturnsAt};
 ghost use Rattle.std.specs.Io.KnownBytes.{Appends};
@@ -47,6 +47,17 @@ impl<'a> Sample<'a> {
         self.number().min(most as u64) as usize
     }
 
+    // A number, counted round behind a bound: one more than the bound is 0.
+    pub fn round(&mut self, most: usize) -> usize
+        ensures value { result ≡ (number_at self.old.bytes.now self.old.at).value % (most + 1) }
+        ensures next { self.new.at ≡ (number_at self.old.bytes.now self.old.at).next }
+        ensures bytes { self.new.bytes ≡ self.old.bytes }
+    {
+        let n = self.number();
+        let most = most as u64;
+        (if n <= most { n } else { n % (most + 1) }) as usize
+    }
+
     // Fills a room, each element made of one number.
     pub fn fill<T: Copy, F: Fn(u64) -> T>(&mut self, room: &mut [T], element: F)
         requires { F.IsAlwaysCallable element }
@@ -60,17 +71,18 @@ impl<'a> Sample<'a> {
         }
     }
 
-    // A list in the front of a room. The sample has how many elements, and the number of each.
+    // A list in the front of a room. The sample has how many elements, and the number of each; how
+    // many is counted round behind what the room holds.
     pub fn list<'b, T: Copy, F: Fn(u64) -> T>(&mut self, room: &'b mut [T], element: F) -> &'b [T]
         requires { F.IsAlwaysCallable element }
         ensures elements { let count = number_at self.old.bytes.now self.old.at in
-            AllZip (F.post element) (numbers (min count.value (length room.old))
+            AllZip (F.post element) (numbers (count.value % (length room.old + 1))
             self.old.bytes.now count.next) result.now }
         ensures next { let count = number_at self.old.bytes.now self.old.at in
-            self.new.at ≡ behind (min count.value (length room.old)) self.old.bytes.now count.next }
+            self.new.at ≡ behind (count.value % (length room.old + 1)) self.old.bytes.now count.next }
         ensures bytes { self.new.bytes ≡ self.old.bytes }
     {
-        let n = self.at_most(room.len());
+        let n = self.round(room.len());
         let list = &mut room[..n];
         self.fill(list, element);
         list
@@ -82,6 +94,13 @@ pub fn byte(n: u64) -> u8
     ensures { result ≡ n % 256 }
 {
     (n % 256) as u8
+}
+
+// A place of a sample, by its number.
+pub fn place(n: u64) -> usize
+    ensures { result ≡ n }
+{
+    n as usize
 }
 
 // How many cases there were, and how many differ.

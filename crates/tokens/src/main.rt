@@ -1,6 +1,8 @@
 #![tactic(auto)]
 // Prints the tokens of the first line of standard input: start, end and kind of each. At most 1,000
 // bytes are read.
+ghost use Rattle.std.specs.Prelude.{◌≤◌, length};
+
 use input::BYTES;
 use lex::{Cursor, Kind};
 use std::io::Write;
@@ -23,7 +25,9 @@ impl fmt::Display for Named {
 }
 
 // The first line, its newline included.
-fn first_line(text: &[u8]) -> &[u8] {
+fn first_line(text: &[u8]) -> &[u8]
+    ensures { length result.now ≤ length text.now }
+{
     text.split_inclusive(|b| *b == b'\n').next().unwrap_or(text)
 }
 

@@ -89,7 +89,8 @@ fn opened_as(dollars: u32) -> u32
 
 // The dollars leave the newest event.
 fn leave(p: &mut Parser, dollars: u32)
-    requires { Dollars dollars p.old.at.events p.old.queue.now }
+    requires queue_numbers_in_bounds { p.old.at.events * queue_numbers ≤ length p.old.queue.now }
+    requires dollars { Dollars dollars p.old.at.events p.old.queue.now }
     ensures queued { Queued p.old p.new (staying p.old (leaving dollars)) }
     ensures status { p.new.at ≡ p.old.at }
 {

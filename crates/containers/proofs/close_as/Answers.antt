@@ -24,5 +24,5 @@ closes_link-requires-clause-event_lt_events c = (named-link c.args.o _ _ _ c.req
 pub returns-in-Link : goal.returns-in-Link
 unfolding close_as rows stack
 returns-in-Link c x =
-    let linked = c.closes_link.ensures x in
+    let linked = c.closes_link.ensures.stepped x in
     search rules

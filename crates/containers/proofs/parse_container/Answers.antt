@@ -16,7 +16,7 @@ pub returns-in_default : goal.returns-in_default
 returns-in_default c x =
     let p = c.args.p.now in
     let y = sheet_of x c.args.text.now p.labels.now in
-    stepped-from p _ _ _ _ (changed-stepped _ _ _ c.opens_or.ensures) refl refl refl
+    stepped-from p _ _ _ _ (changed-stepped _ _ _ c.opens_or.ensures c.requires.label_room.labels) refl refl refl
     (none-tried (viewed c.args.v.now) c.args.h c.args.k (looked_at (c.args.p.now.at.openers - c.unwrap_or.result) c.args.p.now) c.tried.result c.tried.ensures.value c.in_default.is y
     ∙ ap (λ (n : ℕ). container y (viewed c.args.v.now) (here c.args.h p.at) c.args.k (looking n (state p)))
     (looked-count c.args.k.closes p c.seek-found.result c.seek-found.ensures.sought _ c.unwrap_or.ensures))

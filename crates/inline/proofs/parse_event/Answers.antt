@@ -10,7 +10,7 @@ use Rattle.inline.proofs.parse_event.Goals as goal
 pub returns-in_default : goal.returns-in_default
 returns-in_default c =
     let a = c.args in
-    stepped-still a.p.now _ (event-none a.text.now a.reading (viewed a.v.now) a.p.now c.requires _ c.next_token-lexed.ensures c.in_default.is)
+    stepped-still a.p.now _ c.requires.labels (event-none a.text.now a.reading (viewed a.v.now) a.p.now c.requires _ c.next_token-lexed.ensures c.in_default.is)
 
 pub overflow_add-h : goal.overflow_add-h
 overflow_add-h c =
@@ -49,7 +49,7 @@ outside-requires c =
     record {
       ready = event-ready a.text.now a.reading (viewed a.v.now) a.p.now c.requires _ c.next_token-lexed.ensures _ c.in-Some.is _
           _ refl refl refl refl refl;
-      label_room = record { room = c.requires.label_room; links = c.requires.links };
+      label_room = record { labels = c.requires.labels; room = c.requires.label_room; links = c.requires.links };
       countable = c.requires.looks;
       ended = event-ended a.text.now a.reading (viewed a.v.now) a.p.now c.requires _ c.next_token-lexed.ensures _ c.in-Some.is (omega arith)
           c.in-None.is _ refl refl refl;
@@ -58,13 +58,13 @@ outside-requires c =
 pub returns-in-Some-inside : goal.returns-in-Some-inside
 returns-in-Some-inside c =
     let a = c.args in
-    stepped-from a.p.now _ _ _ _ (changed-stepped _ _ _ c.in_verbatim.ensures.changed) refl refl refl
+    stepped-from a.p.now _ _ _ _ (changed-stepped _ _ _ c.in_verbatim.ensures.changed c.requires.labels) refl refl refl
     (event-verbatim a.text.now a.reading (viewed a.v.now) a.p.now c.requires _ c.next_token-lexed.ensures _ c.in-Some.is (omega arith) _ c.in-Some-inside.is)
 
 pub returns-in-Text : goal.returns-in-Text
 returns-in-Text c =
     let a = c.args in
-    stepped-from a.p.now _ _ _ _ (changed-stepped _ _ _ c.put.ensures.queued.changed) refl refl refl
+    stepped-from a.p.now _ _ _ _ (changed-stepped _ _ _ c.put.ensures.queued.changed c.requires.labels) refl refl refl
     (event-text a.text.now a.reading (viewed a.v.now) a.p.now c.requires _ c.next_token-lexed.ensures _ c.in-Some.is (omega arith) c.in-None.is c.in-Text.is)
 
 pub returns-in_default-kind : goal.returns-in_default-kind

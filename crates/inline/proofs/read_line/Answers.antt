@@ -9,7 +9,7 @@ use Rattle.inline.proofs.read_line.Goals as goal
 pub loop-init : goal.loop-init
 loop-init c =
     let a = c.args in
-    turns-first a.text.now (viewed a.v.now) a.reading a.p.now (lined-begins a.text.now (viewed a.v.now) a.reading a.p.now c.requires)
+    turns-first a.text.now (viewed a.v.now) a.reading a.p.now (lined-begins a.text.now (viewed a.v.now) a.reading a.p.now c.requires) c.requires.labels
 
 pub returns-then-over : goal.returns-then-over
 returns-then-over c =

@@ -66,4 +66,5 @@ returns-in-Brace c x =
     record {
       same = rw (c.in-Brace.is, c.place.ensures) (counted_all p (λ (s : State). record { cursor = p.at.cursor; state = refuse at s }));
       lent = lent-same p _ refl refl refl;
+      labels = c.requires.label_room.labels;
     }

@@ -7,10 +7,14 @@ use Rattle.sheets.proofs.parse.Goals as goal
 pub loop-i-init : goal.loop-i-init
 loop-i-init g c =
     let f = c.fresh-p.ensures in
-    head_first c.fresh-p.result (rw (f.queue_held, f.openers_held, f.labels_held) c.requires) f.at_start
+    head_first c.fresh-p.result (rw (f.queue_held, f.openers_held, f.labels_held) c.requires) f.at_start f.labels_value
 
 pub parse_line-requires : goal.parse_line-requires
-parse_line-requires g c = head-behind c.loop-i.invariant (omega (arith, c.loop-i-test.true, c.count-i-end.ensures))
+parse_line-requires g c =
+    record {
+      behind = head-behind c.loop-i.invariant (omega (arith, c.loop-i-test.true, c.count-i-end.ensures));
+      labels_in_bounds = c.loop-i.invariant.labels;
+    }
 
 pub loop-i-preserved : goal.loop-i-preserved
 loop-i-preserved g c =

@@ -9,15 +9,16 @@ use Rattle.sheets.proofs.parse_line.Goals as goal
 pub returns-in_default : goal.returns-in_default
 returns-in_default g c =
     record {
-      same = line_refused c.requires c.in_default.field-0 c.in_default.is;
+      same = line_refused c.requires.behind c.in_default.field-0 c.in_default.is;
       lent = lent-same c.args.p.now c.args.p.now refl refl refl;
+      labels = c.requires.labels_in_bounds;
     }
 
 pub overflow_sub-end : goal.overflow_sub-end
 overflow_sub-end g c =
     omega (
       arith,
-      here-ordered c.requires,
+      here-ordered c.requires.behind,
       ap (λ (z : Line). z.start) c.line-l.ensures,
       ap (λ (z : Line). z.end) c.line-l.ensures,
     )
@@ -26,16 +27,16 @@ pub overflow_add-end : goal.overflow_add-end
 overflow_add-end g c =
     omega (
       arith,
-      here-within c.requires,
-      c.requires.asks.small,
+      here-within c.requires.behind,
+      c.requires.behind.asks.small,
       ap (λ (z : Line). z.end) c.line-l.ensures,
     )
 
 pub loop-init : goal.loop-init
-loop-init g c = walks-first c.requires c.in-None.is c.begin_line.ensures
+loop-init g c = walks-first c.requires.behind c.requires.labels_in_bounds c.in-None.is c.begin_line.ensures
 
 pub feed_line-requires : goal.feed_line-requires
-feed_line-requires g c = walks-amid c.loop.invariant _ c.line-l.ensures
+feed_line-requires g c = record { amid = walks-amid c.loop.invariant _ c.line-l.ensures; labels_in_bounds = c.loop.invariant.labels }
 
 pub returns-in_default-refused : goal.returns-in_default-refused
 returns-in_default-refused g c =
@@ -65,7 +66,7 @@ returns g c =
     (omega (
       arith,
       c.loop-test.false,
-      here-long c.requires,
+      here-long c.requires.behind,
       ap (λ (z : Line). z.start) c.line-l.ensures,
       ap (λ (z : Line). z.end) c.line-l.ensures,
     ))
