@@ -1,3 +1,4 @@
 pub mod Begins
 pub mod Taking
 pub mod Turning
+pub mod Holding

@@ -9,7 +9,7 @@ ghost use Rattle.reading.specs.Machine.{byte_before, view_of};
 ghost use Rattle.reading.specs.Reading.{step, steps, resumed, start, unasked};
 ghost use Rattle.verbatim.specs.Opened.{Begun};
 ghost use Rattle.rooms.specs.Standing.{viewed};
-ghost use Rattle.rooms.specs.Steps.{state, turn, Stepped, Queued, Room, staying, turning};
+ghost use Rattle.rooms.specs.Steps.{state, turn, Holding, Stepped, Queued, Room, staying, turning};
 ghost use Rattle.inline.specs.Asks.{Before, Lined, Amid, BraceAt, ending, over_of, Closing};
 
 use attr::Validator;
@@ -79,7 +79,8 @@ fn view_of(text: &[u8], l: Line) -> View<'_>
 
 // A line begins.
 pub fn begin_line(p: &mut Parser, reading: u32)
-    ensures { Begun reading p.old p.new }
+    ensures begun { Begun reading p.old p.new }
+    ensures held { Holding p.old → Holding p.new }
 {
     verbatim::begun(p, reading);
 }
@@ -88,7 +89,8 @@ pub fn begin_line(p: &mut Parser, reading: u32)
 pub fn feed_line(p: &mut Parser, text: &[u8], l: Line, reading: u32)
     requires amid { Amid text.now l reading (turn p.old) p.old.queue.now p.old.openers.now p.old.labels.now }
     requires labels_in_bounds { p.old.at.labels ≤ length p.old.labels.now }
-    ensures { Stepped p.old p.new (turning p.old (let v = view_of text.now l in steps (length v.bytes) (unasked text.now reading (length p.old.labels.now)) v)) }
+    ensures stepped { Stepped p.old p.new (turning p.old (let v = view_of text.now l in steps (length v.bytes) (unasked text.now reading (length p.old.labels.now)) v)) }
+    ensures held { Holding p.new }
 {
     read_line(p, text, &view_of(text, l), reading);
 }
@@ -96,7 +98,8 @@ pub fn feed_line(p: &mut Parser, text: &[u8], l: Line, reading: u32)
 // Behind a brace of the line, at which no attribute block stands: it is Str.
 pub fn pass_brace(p: &mut Parser, text: &[u8], l: Line, at: Place)
     requires { BraceAt text.now l at p.old }
-    ensures { Queued p.old p.new (turning p.old (resumed (view_of text.now l) at.0)) }
+    ensures queued { Queued p.old p.new (turning p.old (resumed (view_of text.now l) at.0)) }
+    ensures held { Holding p.old → Holding p.new }
 {
     let v = view_of(text, l);
     let brace = Span {
@@ -132,6 +135,7 @@ pub fn fresh<'q, 'o, 'l>(
     ensures queue_held { result.queue.now ≡ queue.old }
     ensures openers_held { result.openers.now ≡ openers.old }
     ensures labels_held { result.labels.now ≡ labels.old }
+    ensures held { Holding result }
 {
     Parser::new(Cursor::new(0, false), None, queue, openers, labels)
 }
@@ -141,7 +145,8 @@ pub fn finish(p: &mut Parser, end: usize)
     requires end_bound { end < 2 ^ 32 }
     requires room { Room 1 p.old }
     requires closing { Closing p.old.at.refused p.old }
-    ensures { Queued p.old p.new (staying p.old (ending end)) }
+    ensures queued { Queued p.old p.new (staying p.old (ending end)) }
+    ensures held { Holding p.old → Holding p.new }
 {
     if let None = p.at.refused {
         verbatim::ended_at(p, Place(end as u32));

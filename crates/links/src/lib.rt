@@ -4,7 +4,7 @@ ghost use Rattle.std.specs.Prelude.{◌≡◌, ◌+◌, ◌*◌, ◌^◌, ◌≤
 ghost use Rattle.reading.specs.Events.{enter_from, queue_numbers, largest};
 ghost use Rattle.reading.specs.Machine.{Rules};
 ghost use Rattle.rooms.specs.Standing.{viewed, here};
-ghost use Rattle.rooms.specs.Steps.{Stepped, staying};
+ghost use Rattle.rooms.specs.Steps.{Holding, Stepped, staying};
 ghost use Rattle.links.specs.Linked.{linked};
 
 use labels::Destination;
@@ -25,6 +25,7 @@ pub fn closes_link(p: &mut Parser, text: &[u8], v: &View, h: Span, t: Target, o:
     ensures stepped { (rules : Rules) → Stepped p.old p.new (staying p.old (linked rules text.now p.old.labels.now (viewed v.now) (here h p.old.at) t o)) }
     ensures openers { p.new.at.openers ≡ p.old.at.openers }
     ensures opener_room { p.new.openers.now ≡ p.old.openers.now }
+    ensures held { Holding p.old → Holding p.new }
 {
     let at = p.at;
     let d = Destination {

@@ -49,12 +49,17 @@ abbrev pub LastOk : Option Last → List Event → Type 0
 LastOk None q = Unit {0}
 LastOk (Some l) q = (l.dollars ≡ 0) ⊎ Ends l.dollars l.end.0 q
 
-pub last-put : (v : View) (kind i j : ℕ) (q : List Event) → i ≤ j → LastOk (last_of v kind i j) (q ++ event kind (v.base + i) (v.base + j) ∷ [])
+-- what is noted is of the last event
+abbrev pub LastIs : Option Last → List Event → Type 0
+LastIs None q = Unit {0}
+LastIs (Some l) q = Ends l.dollars l.end.0 q
+
+pub last-is : (v : View) (kind i j : ℕ) (q : List Event) → i ≤ j → LastIs (last_of v kind i j) (q ++ event kind (v.base + i) (v.base + j) ∷ [])
 unfolding last_of link_exit
-last-put v kind i j q h =
-    choose (λ (l : Option Last). LastOk l (q ++ event kind (v.base + i) (v.base + j) ∷ [])) (eqb kind str) _ _
+last-is v kind i j q h =
+    choose (λ (l : Option Last). LastIs l (q ++ event kind (v.base + i) (v.base + j) ∷ [])) (eqb kind str) _ _
     (λ e.
-    inr record {
+    record {
       front = q;
       it = event kind (v.base + i) (v.base + j);
       parted = refl;
@@ -63,6 +68,13 @@ last-put v kind i j q h =
       shown = subst (λ (k : ℕ). link_exit k ≡ false) (sym (eqb-true kind str e)) refl;
     })
     (λ e. tt)
+
+pub is-ok : (l : Option Last) (q : List Event) → LastIs l q → LastOk l q
+is-ok None q e = tt
+is-ok (Some l) q e = inr e
+
+pub last-put : (v : View) (kind i j : ℕ) (q : List Event) → i ≤ j → LastOk (last_of v kind i j) (q ++ event kind (v.base + i) (v.base + j) ∷ [])
+last-put v kind i j q h = is-ok (last_of v kind i j) _ (last-is v kind i j q h)
 
 -- every byte under some events is blank
 abbrev pub Blank : List ℕ → List Event → Type 0

@@ -33,6 +33,7 @@ pub mod Alike
 pub mod Margins
 pub mod Theorems
 pub mod Counting
+pub mod Noted
 pub mod Stopping
 pub mod Answers
 pub mod Lone

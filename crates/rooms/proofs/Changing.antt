@@ -1,14 +1,16 @@
 -- One change after another, and what a change says of the parser's own numbers.
-use Prim.Native.Nat.{ℕ, ◌+◌, ◌≤◌}
+use Prim.Native.Nat.{ℕ, ◌+◌, ◌*◌, ◌≤◌}
 use mathlib.Core.Path.{◌≡◌, refl, sym, ap, ◌∙◌}
 use mathlib.Core.List.{List}
+use native.Mathlib.Omega.{arith}
 use Rattle.std.specs.Borrow.{MutBor}
 use lib.ListN.{length}
 use Rattle.lex.specs.declared.lex.Cursor.{Cursor}
+use Rattle.reading.specs.Events.{queue_numbers}
 use Rattle.reading.specs.Machine.{State, Turn}
 use Rattle.rooms.specs.declared.Parser.{Parser}
 use Rattle.rooms.specs.Records.{event_at, opener_at}
-use Rattle.rooms.specs.Steps.{state, turn, Lent, Stepped, Changed, Queued, staying}
+use Rattle.rooms.specs.Steps.{state, turn, Lent, Holding, Stepped, Changed, Queued, staying}
 use Rattle.rooms.proofs.Rows.{rows-length, stack-length}
 
 -- as many events as are counted
@@ -146,6 +148,15 @@ module _ (p r : Parser) (f : State → Turn) where
           changed = changed-then c.changed t g h d.changed e;
           openers = d.openers ∙ c.openers;
           opener_room = d.opener_room ∙ c.opener_room;
+        }
+
+    -- the rooms hold what is counted, if the queue's does
+    pub queued-holding : r.at.events * queue_numbers ≤ length p.queue.now → Holding p → Holding r
+    queued-holding e h =
+        record {
+          queue_held = omega (arith, e, c.changed.lent.queue_length);
+          openers_held = rw (c.openers, c.opener_room) h.openers_held;
+          labels_held = rw (c.changed.labels, c.changed.label_room) h.labels_held;
         }
 
 -- a step, and a change of the queue, of another parser with the same rooms

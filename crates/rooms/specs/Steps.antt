@@ -3,7 +3,7 @@
 use Rattle.std.specs.Prelude.{ℕ, ◌+◌, ◌*◌, ◌≤◌, ◌≡◌, ◌∷◌, length, take}
 use Rattle.reading.specs.declared.Event.{Event}
 use Rattle.reading.specs.declared.Opener.{Opener}
-use Rattle.reading.specs.Events.{queue_numbers}
+use Rattle.reading.specs.Events.{queue_numbers, opener_numbers}
 use Rattle.reading.specs.Machine.{State, Turn, amend, with_queue, with_openers}
 use Rattle.rooms.specs.declared.Parser.{Parser}
 use Rattle.rooms.specs.Standing.{stands}
@@ -23,6 +23,12 @@ pub record Lent (p r : Parser) : Type 0 where
   pub queue_length : length r.queue.now ≡ length p.queue.now
   pub openers_length : length r.openers.now ≡ length p.openers.now
   pub labels_length : length r.labels.now ≡ length p.labels.now
+
+-- each room of p holds what is counted in it
+pub record Holding (p : Parser) : Type 0 where
+  pub queue_held : p.at.events * queue_numbers ≤ length p.queue.now
+  pub openers_held : p.at.openers * opener_numbers ≤ length p.openers.now
+  pub labels_held : p.at.labels ≤ length p.labels.now
 
 -- what a function does: of p it makes r
 pub record Stepped (p r : Parser) (f : State → Turn) : Type 0 where

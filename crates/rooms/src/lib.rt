@@ -34,9 +34,10 @@ pub struct Status {
     pub looks: u64,
 }
 
-// The parser: what it is at, and the rooms that are lent to it. That these hold what it counts, and
-// room for more, is asked call by call: some functions touch no room, and a push spends it. The
-// line is lent beside it: lines begin and end within a parser's life, and `inline::finish` has none.
+// The parser: what it is at, and the rooms that are lent to it. That these hold what it counts
+// (`Holding`), and room for more, is asked call by call: some functions touch no room, and a push
+// spends it. The line is lent beside it: lines begin and end within a parser's life, and
+// `inline::finish` has none.
 #[derive(Drop)]
 pub struct Parser<'q, 'o, 'l> {
     pub at: Status,

@@ -1,5 +1,6 @@
 -- `links::closes_link` meets its contract, by the laws of `Linking`.
 use mathlib.Core.Path.{refl, ◌∙◌}
+use native.Mathlib.Omega.{arith}
 use Rattle.std.proofs.Common.{rules}
 use Rattle.rooms.specs.Standing.{viewed}
 use Rattle.rooms.proofs.Changing.{lent-then, lent-as, queued-on}
@@ -9,6 +10,16 @@ use Rattle.links.proofs.closes_link.Goals as goal
 -- none of the three changes of the queue writes an opener
 pub returns-clause-opener_room : goal.returns-clause-opener_room
 returns-clause-opener_room c = c.cut.ensures.queued.opener_room ∙ c.set_kind_to.ensures.queued.opener_room ∙ c.set_kind.ensures.queued.opener_room
+
+-- of the queue no more is counted than before, and the label fits its room
+pub returns-clause-held : goal.returns-clause-held
+returns-clause-held c h =
+    let all = queued-on _ _ _ _ _ (queued-on _ _ _ _ _ c.set_kind.ensures.queued c.set_kind_to.ensures.queued) c.cut.ensures.queued in
+    record {
+      queue_held = omega (arith, c.cut.ensures.count, c.requires.event_lt_events, c.requires.queue_numbers_in_bounds, all.changed.lent.queue_length);
+      openers_held = rw (all.openers, all.opener_room) h.openers_held;
+      labels_held = omega (arith, c.label_of-label.ensures.room, all.changed.lent.labels_length);
+    }
 
 pub returns-clause-stepped : goal.returns-clause-stepped
 returns-clause-stepped c x =

@@ -33,7 +33,7 @@ finish-requires g c =
 pub returns : goal.returns
 returns g c =
     let f = c.fresh-p.ensures in
-    let k = head-last c.loop-i.invariant (omega (arith, c.loop-i-test.false, c.count-i-end.ensures)) c.finish.ensures in
+    let k = head-last c.loop-i.invariant (omega (arith, c.loop-i-test.false, c.count-i-end.ensures)) c.finish.ensures.queued in
     let q = k.lent.queue ∙ f.queue_lent in
     let o = k.lent.openers ∙ f.openers_lent in
     let l = k.lent.labels ∙ f.labels_lent in

@@ -33,32 +33,32 @@ overflow_add-end g c =
     )
 
 pub loop-init : goal.loop-init
-loop-init g c = walks-first c.requires.behind c.requires.labels_in_bounds c.in-None.is c.begin_line.ensures
+loop-init g c = walks-first c.requires.behind c.requires.labels_in_bounds c.in-None.is c.begin_line.ensures.begun
 
 pub feed_line-requires : goal.feed_line-requires
 feed_line-requires g c = record { amid = walks-amid c.loop.invariant _ c.line-l.ensures; labels_in_bounds = c.loop.invariant.labels }
 
 pub returns-in_default-refused : goal.returns-in_default-refused
 returns-in_default-refused g c =
-    walks-end c.loop.invariant c.line-l.ensures c.feed_line.ensures c.in_default-refused.is
+    walks-end c.loop.invariant c.line-l.ensures c.feed_line.ensures.stepped c.in_default-refused.is
 
 pub block_at-requires : goal.block_at-requires
-block_at-requires g c = walks-within c.loop.invariant c.line-l.ensures c.feed_line.ensures c.in-Some.is
+block_at-requires g c = walks-within c.loop.invariant c.line-l.ensures c.feed_line.ensures.stepped c.in-Some.is
 
 pub returns-then-block_at : goal.returns-then-block_at
 returns-then-block_at g c =
-    walks_block c.loop.invariant c.line-l.ensures c.feed_line.ensures c.in-Some.is
+    walks_block c.loop.invariant c.line-l.ensures c.feed_line.ensures.stepped c.in-Some.is
     (sym c.block_at.ensures ∙ c.if-block_at.true)
 
 pub pass_brace-requires : goal.pass_brace-requires
 pass_brace-requires g c =
-    walks-brace c.loop.invariant c.line-l.ensures c.feed_line.ensures c.in-Some.is
+    walks-brace c.loop.invariant c.line-l.ensures c.feed_line.ensures.stepped c.in-Some.is
     (sym c.block_at.ensures ∙ c.if-block_at.false)
 
 pub loop-preserved : goal.loop-preserved
 loop-preserved g c =
-    walks_next c.loop.invariant c.line-l.ensures c.feed_line.ensures c.in-Some.is
-    (sym c.block_at.ensures ∙ c.if-block_at.false) c.pass_brace.ensures
+    walks_next c.loop.invariant c.line-l.ensures c.feed_line.ensures.stepped c.in-Some.is
+    (sym c.block_at.ensures ∙ c.if-block_at.false) c.pass_brace.ensures.queued
 
 pub returns : goal.returns
 returns g c =
